@@ -116,7 +116,7 @@ static int is_whole(const struct text *reply) {
     return reply->length && reply->bytes[reply->length - 1] == '\n' && (reply->length == 1 || reply->bytes[reply->length - 2] == '\n');
 }
 
-/* What was told, where it is `unread` or `refused NAME`. */
+/* What was told, where it is `unread`, `refused NAME`, or `refused K NAME` of an edit among several: then K and NAME. */
 static const char *granted(struct replica *replica) {
     char *told = replica->reply.bytes;
     if (!strcmp(told, "unread\n\n")) return "unread";
@@ -228,6 +228,19 @@ const char *replica_update(struct replica *replica, const char *table, const str
 
 const char *replica_delete(struct replica *replica, const char *table, const struct replica_value *key, size_t count) {
     return make(replica, REPLICA_DELETE, table, key, count);
+}
+
+const char *replica_edits(struct replica *replica, const struct replica_edit *edits, size_t count, size_t *place) {
+    char line[32];
+    snprintf(line, sizeof line, "edits %zu\n", count);
+    begin(&replica->asked, line);
+    for (size_t at = 0; at < count; at++) put_line(&replica->asked, verbs[edits[at].operation], edits[at].table, edits[at].values, edits[at].count);
+    const char *refused = ask(replica);
+    char *name;
+    *place = count;
+    if (!refused || *refused < '0' || *refused > '9') return refused;
+    *place = (size_t)strtoull(refused, &name, 10) - 1;
+    return name + 1;
 }
 
 /* ---- lines of the reply, read in their places */

@@ -54,6 +54,16 @@ const char *replica_insert(struct replica *replica, const char *table, const str
 const char *replica_update(struct replica *replica, const char *table, const struct replica_value *values, size_t count);
 const char *replica_delete(struct replica *replica, const char *table, const struct replica_value *key, size_t count);
 
+struct replica_edit {
+    enum replica_operation operation;
+    const char *table;
+    const struct replica_value *values;
+    size_t count;
+};
+
+/* Makes these edits as one commit, in order: all or none. Where one is refused, `place` gets its place among them, from 0, else their number. */
+const char *replica_edits(struct replica *replica, const struct replica_edit *edits, size_t count, size_t *place);
+
 /* ---- what is there. What is shown stays until the call returns */
 
 /* A change of a row of so many columns. An INSERT has no old row, a DELETE no new one. An UPDATE has the old values of the key and of what it changes, and the new ones

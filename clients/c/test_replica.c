@@ -134,6 +134,29 @@ static const char *sync_by(struct replica *replica, replica_exchange *exchange, 
 
 /* ---- the tests */
 
+static void several(struct replica *till) {
+    size_t at;
+    const struct replica_edit edits[] = {{REPLICA_INSERT, "stock", REPLICA_VALUES(replica_text("glue"), replica_integer(4), replica_text("n\xc3\xa4h \n"))},
+                                         {REPLICA_UPDATE, "stock", REPLICA_VALUES(replica_text("glue"), replica_integer(3), replica_same())},
+                                         {REPLICA_DELETE, "stock", REPLICA_VALUES(replica_text("saw"))},
+                                         {REPLICA_DELETE, "stock", REPLICA_VALUES(replica_text("glue"))},
+                                         {REPLICA_DELETE, "stock", REPLICA_VALUES(replica_text("glue"), replica_null())},
+                                         {REPLICA_INSERT, "stock", REPLICA_VALUES(replica_same(), replica_integer(4), replica_null())}};
+    owed(replica_edits(till, edits, 3, &at), "Missing");
+    holds(at == 2);
+    owed(row(till, "glue"), "");
+    owed(replica_edits(till, edits + 4, 1, &at), "Width");
+    holds(at == 0);
+    owed(replica_edits(till, edits + 5, 1, &at), "unread");
+    holds(at == 1);
+    done(replica_edits(till, edits, 2, &at));
+    holds(at == 2);
+    owed(row(till, "glue"), " 'glue'4 3 'n\xc3\xa4h \n'6;");
+    done(replica_edits(till, edits + 3, 1, &at));
+    done(replica_edits(till, edits, 0, &at));
+    owed(row(till, "glue"), "");
+}
+
 static void tables(void) {
     struct replica *till = open_as("sorts.db", 9, sorts);
     const char *table = "all sorts";
@@ -158,6 +181,8 @@ static void tables(void) {
     owed(rows(till, "shop"), "NoTable");
     owed(row(till, "nails"), " 'nails'5 100 ''0;");
     owed(row(till, "glue"), "");
+    owed(place(till), "0 4 0");
+    several(till);
     owed(place(till), "0 4 0");
 
     refuse_as("sorts.db", 9, sorts, "Device");

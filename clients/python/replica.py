@@ -3,6 +3,7 @@
     till = Replica("till.db", 7, {"stock": ["article*", "pieces", "note"]})
     till.insert("stock", "nails", 100, "")
     till.update("stock", "nails", pieces=90)
+    till.edits([insert("stock", "glue", 4, ""), delete("stock", "nails")])      # both or neither
     till.sync(http_exchange("http://127.0.0.1:8080/", token))
     for article, pieces, note in till.rows("stock"):
         print(article, pieces)
@@ -15,7 +16,7 @@ the exception of that name (`Exists`, `Missing`, ..), and has changed nothing. T
 from __future__ import annotations
 
 import enum, http.client, os, re, subprocess, threading, weakref
-from typing import Any, Callable, Dict, List, Mapping, NamedTuple, NoReturn, Optional, Sequence, Tuple, Union
+from typing import Any, Callable, Dict, Iterable, List, Mapping, NamedTuple, NoReturn, Optional, Sequence, Tuple, Union
 from urllib.parse import quote, unquote, urlsplit
 
 Value = Union[None, int, str, bytes]
@@ -28,7 +29,11 @@ CODES = {1: "Memory", 30: "UnknownTable", 31: "Shape", 40: "Ahead", 41: "Conflic
 
 
 class Refused(Exception):
-    """A call that was refused, and changed nothing."""
+    """A call that was refused, and changed nothing. `index` says which of the list of `Replica.edits` was, from 0."""
+    index: Optional[int] = None
+
+    def __str__(self) -> str:
+        return super().__str__() + ("" if self.index is None else f": edits[{self.index}]")
 
 
 class NoTable(Refused): "There is no such table."
@@ -62,6 +67,29 @@ class Ended(Exception):
 def refusal(name: str) -> Refused:
     """The exception of this name."""
     return {kind.__name__: kind for kind in Refused.__subclasses__() if kind is not HubRefused}.get(name, Refused)(name)
+
+
+class Edit(NamedTuple):
+    """An edit for the list of `Replica.edits`, as `insert`, `update` and `delete` make it."""
+    verb: str
+    table: str
+    values: Tuple[Value, ...]
+    fields: Mapping[str, Value]
+
+
+def insert(table: str, /, *values: Value) -> Edit:
+    """Inserts a row, a value a column."""
+    return Edit("insert", table, values, {})
+
+
+def update(table: str, /, *key: Value, **fields: Value) -> Edit:
+    """Sets these columns of the row with this key."""
+    return Edit("update", table, key, fields)
+
+
+def delete(table: str, /, *key: Value) -> Edit:
+    """Deletes the row with this key."""
+    return Edit("delete", table, key, {})
 
 
 class Change(NamedTuple):
@@ -157,15 +185,27 @@ class Replica:
 
     def insert(self, table: str, /, *values: Value) -> None:
         """Inserts a row, a value a column."""
-        self._edit(self._spell("insert", table, values, {}))
+        self._edit(self._spell(*insert(table, *values)))
 
     def update(self, table: str, /, *key: Value, **fields: Value) -> None:
         """Sets these columns of the row with this key."""
-        self._edit(self._spell("update", table, key, fields))
+        self._edit(self._spell(*update(table, *key, **fields)))
 
     def delete(self, table: str, /, *key: Value) -> None:
         """Deletes the row with this key."""
-        self._edit(self._spell("delete", table, key, {}))
+        self._edit(self._spell(*delete(table, *key)))
+
+    def edits(self, edits: Iterable[Edit]) -> None:
+        """Makes these edits as one commit, in order: all or none. Each is refused as it would be alone, behind those before it, and the exception's `index` says which
+        of the list it is, from 0. Words that no line could say, as too many values, are refused before the program sees any of the list."""
+        lines: List[str] = []
+        for edit in edits:
+            try:
+                lines.append(self._spell(*edit))
+            except Refused as refused:
+                refused.index = len(lines)
+                raise
+        self._edit("\n".join([f"edits {len(lines)}", *lines]))
 
     def rows(self, table: str) -> List[Row]:
         """All rows of a table, in the order of their keys' bytes (docs/FORMATS.md, 12)."""
@@ -318,23 +358,28 @@ class Replica:
         return Clash(table, words[0], theirs, held, mine, "k" in words[-1], "t" in words[-1])
 
     def _tell(self, line: str) -> List[str]:
-        """The reply, where it is neither `unread` nor `refused NAME`."""
+        """The reply, where it is neither `unread` nor `refused NAME`, nor `refused K NAME` of an edit among several."""
         told = self._ask(line)
         words = told[0].split(" ") if told else [""]
         if words[0] not in ("refused", "unread"):
             return told
-        raise refusal(words[-1])
+        refused = refusal(words[-1])
+        if len(words) == 3:
+            refused.index = int(words[1]) - 1
+        raise refused
 
     def _ask(self, line: str) -> List[str]:
-        """The reply to a line. It ends with an empty line."""
+        """The reply to a line, or to the lines of several edits. It ends with an empty line."""
         with self._turn:
             assert self._node.stdin and self._node.stdout
             if self._node.stdin.closed:
                 raise Ended("closed")
-            told = []
+            told: List[str] = []
+            is_sent = False
             try:
                 self._node.stdin.write((line + "\n").encode())
                 self._node.stdin.flush()
+                is_sent = True
                 for text in iter(self._node.stdout.readline, b"\n"):
                     if not text.endswith(b"\n"):
                         self._fail()
@@ -342,7 +387,9 @@ class Replica:
             except BrokenPipeError:
                 self._fail()
             except BaseException:
-                # What is left of the reply must not be taken for the next line's.
+                # A line that was cut short must not be taken for a whole one, nor what is left of the reply for the next line's.
+                if not is_sent:
+                    self._node.kill()
                 self._end()
                 raise
             return told

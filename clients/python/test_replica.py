@@ -6,7 +6,7 @@ from pathlib import Path
 
 import replica
 from replica import BadEntry, Clash, Device, Ended, HubRefused, Mismatch, Place, Real, Refused, Replica, Synced, Wish
-from replica import http_exchange, keep_mine, take_theirs
+from replica import delete, http_exchange, insert, keep_mine, take_theirs, update
 
 SYNC = os.environ.get("SYNC", "sync")
 GATEWAY = Path(__file__).resolve().parents[2] / "hub" / "gateway.py"
@@ -105,6 +105,56 @@ class Tables(Case):
             till.update("stock", "nails", peices=1)
         self.assertEqual(till.rows("stock"), [("nails", 100, "")])
         self.assertEqual(till.place(), Place(0, 1, 0))
+
+    def test_several_edits_are_one(self):
+        till = self.till(1)
+        till.insert("stock", "nails", 100, "")
+        glue = insert("stock", "glue", 4, "näh \n")
+        till.edits([glue, update("stock", "glue", pieces=3), update("stock", "nails", pieces=90, note=None), insert("stock", "saw", 1, ""), delete("stock", "saw")])
+        self.assertEqual(sorted(till.rows("stock")), [("glue", 3, "näh \n"), ("nails", 90, None)])
+        self.assertEqual(till.place(), Place(0, 2, 0))
+        till.edits(iter([delete("stock", "glue")]))
+        till.edits([])
+        self.assertEqual(till.rows("stock"), [("nails", 90, None)])
+        for index, name, edits in (
+            (0, "Exists", [insert("stock", "nails", 1, ""), glue]),
+            (1, "Missing", [glue, delete("stock", "saw"), glue]),
+            (2, "Exists", [delete("stock", "nails"), glue, glue]),
+            (1, "NullKey", [glue, insert("stock", None, 4, "")]),
+            (1, "NoTable", [glue, insert("shop", 1)]),
+            (2, "Width", [delete("stock", "saw"), glue, delete("stock", "nails", 1)]),
+            (1, "KeyColumn", [glue, update("stock", "nails", article="saw")]),
+            (1, "Real", [glue, update("stock", "nails", pieces=2.5)]),
+        ):
+            refused = self.refuses(name, till.edits, edits)
+            self.assertEqual((refused.index, str(refused).split(": ")[-1]), (index, f"edits[{index}]"))
+        self.assertRaises(OverflowError, till.edits, [glue, insert("stock", 1 << 63, 4, "")])
+        self.assertIsNone(self.refuses("Exists", till.insert, "stock", "nails", 1, "").index)
+        self.assertEqual((till.rows("stock"), till.place()), ([("nails", 90, None)], Place(0, 1, 0)))
+        till.edits([insert("stock", number, number, "x" * 100) for number in range(700)])
+        self.assertEqual(till.place(), Place(0, 701, 0))
+        till.close()
+        self.assertEqual(len(self.till(1).rows("stock")), 701)
+
+    def test_edits_that_are_cut_short_are_not_made(self):
+        class Broken:
+            def __init__(self, pipe):
+                self.pipe, self.close = pipe, pipe.close
+            def write(self, lines):
+                self.pipe.write(lines[:-2])
+            def flush(self):
+                self.pipe.flush()
+                raise KeyboardInterrupt
+            @property
+            def closed(self):
+                return self.pipe.closed
+        first, second = insert("stock", 1, 1, 12), insert("stock", 2, 1, 12)
+        for id, call in (1, lambda till: till.insert("stock", 1, 1, 12)), (2, lambda till: till.edits([first, second])):
+            till = self.till(id)
+            till._node.stdin = Broken(till._node.stdin)
+            self.assertRaises(KeyboardInterrupt, call, till)
+            self.assertRaises(Ended, till.rows, "stock")
+            self.assertEqual(self.till(id).rows("stock"), [])
 
     def test_a_file_is_one_replicas_and_one_programs(self):
         till = self.till(1)
