@@ -14,8 +14,8 @@ returns g c =
       orders = c.one_order_or_two.ensures;
     } in
     record {
-      shown = one_shown_file laws (record { remaining = g.F.Input.Read.remaining; failed = g.F.Input.PieceInput.failed }) g.F.InputFiles;
-      fault = one_shown_file_fault laws (record { remaining = g.F.Input.Read.remaining; failed = g.F.Input.PieceInput.failed }) g.F.InputFiles;
-      combined = one_combined_of laws (record { remaining = g.F.Input.Read.remaining; failed = g.F.Input.PieceInput.failed }) g.F.InputFiles;
-      combine_fault = one_combined_fault_of laws (record { remaining = g.F.Input.Read.remaining; failed = g.F.Input.PieceInput.failed }) g.F.InputFiles;
+      shown = one_shown_file laws (record { remaining = g.F.Input.Read.remaining; consumable_len = g.F.Input.BufRead.consumable_len; failed = g.F.Input.PieceInput.failed }) g.F.InputFiles;
+      fault = one_shown_file_fault laws (record { remaining = g.F.Input.Read.remaining; consumable_len = g.F.Input.BufRead.consumable_len; failed = g.F.Input.PieceInput.failed }) g.F.InputFiles;
+      combined = one_combined_of laws (record { remaining = g.F.Input.Read.remaining; consumable_len = g.F.Input.BufRead.consumable_len; failed = g.F.Input.PieceInput.failed }) g.F.InputFiles;
+      combine_fault = one_combined_fault_of laws (record { remaining = g.F.Input.Read.remaining; consumable_len = g.F.Input.BufRead.consumable_len; failed = g.F.Input.PieceInput.failed }) g.F.InputFiles;
     }
