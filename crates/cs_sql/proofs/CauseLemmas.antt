@@ -1,5 +1,5 @@
 -- Why a call of the engine fails.
-use Rattle.std.proofs.Common.{◌≡◌, inl, inr, ℕ, List, [], length, Bool, true, false, IsTrue, IsSome, Result, Ok, Err, append-nil, refl, sym, ap, subst, ◌∙◌, arith}
+use Rattle.std.proofs.Common.{◌≡◌, inl, inr, ℕ, List, [], length, Bool, true, false, IsTrue, IsSome, append-nil, refl, sym, ap, subst, ◌∙◌, arith}
 use Rattle.sqlite_trees.specs.Tree.{Trees}
 use Rattle.sqlite_trees.specs.declared.error.StoreError.{StoreError}
 use Rattle.sqlite_trees.specs.declared.error.StoreError.TheVariants.{OutOfMemory, Io, Corrupt, Full, Broken, Unstorable}

@@ -1,4 +1,5 @@
 pub mod Meanings
+pub mod Spaces
 pub mod Keyed
 pub mod Apart
 pub mod Removal

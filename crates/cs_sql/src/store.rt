@@ -18,8 +18,8 @@ ghost use Rattle.cs_sql.specs.Opening.{IsOpenedAt, TellsWhy};
 
 use crate::schema::{complete, lay_out};
 use crate::statements::{
-    Found, LogFound, check_store, commit_batch, list_log, list_pending, list_rows, look, read_log,
-    read_meta, read_pending, read_row,
+    Found, LogFound, Space, check_store, commit_batch, list_at, list_log, look, read_at, read_log,
+    read_meta,
 };
 use cs_store::{Batch, MetaName, RowStore, StoreFault, StoredBody, StoredEntry};
 use cs_value::Catalog;
@@ -258,28 +258,28 @@ impl<A: Alter> RowStore for SqlStore<A> {
     ghost leaves = { λ s clean. ∥∥₁_map (A.Store.survives s.conn.store clean) (λ left. (contents_in left.0, (left.0, left.1, refl))) };
 
     fn get(&mut self, table: u32, key: &[u8]) -> Result<Option<Vec<u8>>, StoreFault> {
-        match read_row(&mut self.conn, table, key) {
+        match read_at(&mut self.conn, Space::Rows, table, key) {
             Ok(body) => Ok(body),
             Err(error) => Err(fault_of(&error, &mut self.failures)),
         }
     }
 
     fn list(&mut self, table: u32) -> Result<Vec<StoredBody>, StoreFault> {
-        match list_rows(self.alloc, &mut self.conn, table) {
+        match list_at(self.alloc, &mut self.conn, Space::Rows, table) {
             Ok(rows) => Ok(rows),
             Err(error) => Err(fault_of(&error, &mut self.failures)),
         }
     }
 
     fn pend_get(&mut self, table: u32, key: &[u8]) -> Result<Option<Vec<u8>>, StoreFault> {
-        match read_pending(&mut self.conn, table, key) {
+        match read_at(&mut self.conn, Space::Pending, table, key) {
             Ok(change) => Ok(change),
             Err(error) => Err(fault_of(&error, &mut self.failures)),
         }
     }
 
     fn pend_list(&mut self, table: u32) -> Result<Vec<StoredBody>, StoreFault> {
-        match list_pending(self.alloc, &mut self.conn, table) {
+        match list_at(self.alloc, &mut self.conn, Space::Pending, table) {
             Ok(changes) => Ok(changes),
             Err(error) => Err(fault_of(&error, &mut self.failures)),
         }

@@ -20,23 +20,33 @@ use Rattle.std.specs.List.{fold, slice_get}
 use Rattle.std.proofs.lemmas.List.{take_more}
 use Rattle.std.proofs.lemmas.List.Sums.{fold-append}
 use Rattle.std.proofs.lemmas.Option.{slice_get_within, get_or_from_slice_get}
+use Rattle.cs_sql.specs.declared.statements.spaces.Space.{Space}
+use Rattle.cs_sql.specs.declared.statements.spaces.Space.TheVariants.{Rows, Pending}
 use Rattle.cs_sql.specs.schema.Schemas.{store_over}
 use Rattle.cs_sql.specs.statements.Tables.{AreKept, IsKept, contents_in}
-use Rattle.cs_sql.specs.statements.Steps.{Edits, HasBatch, with_batch, with_edit, with_edits, with_change, with_changes, with_value, with_values}
+use Rattle.cs_sql.specs.statements.Steps.{Edits, HasBatch, placed, with_at, with_batch, with_edit, with_edits, with_value, with_values, without_at}
 use Rattle.cs_sql.proofs.StatementsLemmas.Answers.{place_total, place_exact}
 
-pub removed : (rows : Bodies) (place : StorePlace) → get (remove rows place) place ≡ None
-removed rows place = get-remove place_total rows place place ∙ ap (λ b. cond b None (get rows place)) ((eq_by_cmp_equiv place_total).refl place)
+removed : (bodies : Bodies) (place : StorePlace) → get (remove bodies place) place ≡ None
+removed bodies place = get-remove place_total bodies place place ∙ ap (λ b. cond b None (get bodies place)) ((eq_by_cmp_equiv place_total).refl place)
 
 passed : {A : Type 0} (b : Bool) (x y : Option A) → cond b x (cond b None y) ≡ cond b x y
 passed true x y = refl
 passed false x y = refl
 
--- a row that is removed first and then set
-pub set_anew : (rows : Bodies) (place : StorePlace) (body : List ℕ) → insert (remove rows place) place body ≡ insert rows place body
-set_anew rows place body = same_map place_total place_exact _ _ (λ q.
-    get-insert place_total (remove rows place) place body q ∙ ap (cond (eq_by_cmp place_cmp q place) (Some body)) (get-remove place_total rows place q)
-    ∙ passed (eq_by_cmp place_cmp q place) (Some body) (get rows q) ∙ sym (get-insert place_total rows place body q))
+set_anew : (bodies : Bodies) (place : StorePlace) (body : List ℕ) → insert (remove bodies place) place body ≡ insert bodies place body
+set_anew bodies place body = same_map place_total place_exact _ _ (λ q.
+    get-insert place_total (remove bodies place) place body q ∙ ap (cond (eq_by_cmp place_cmp q place) (Some body)) (get-remove place_total bodies place q)
+    ∙ passed (eq_by_cmp place_cmp q place) (Some body) (get bodies q) ∙ sym (get-insert place_total bodies place body q))
+
+pub removed_at : (space : Space) (was : Contents) (table : ℤ) (key : List ℕ) → get (placed space (without_at space table key was)) (table, key) ≡ None
+removed_at Rows was table key = removed was.rows (table, key)
+removed_at Pending was table key = removed was.pending (table, key)
+
+-- a body that is removed first and then set
+pub set_at_anew : (space : Space) (was : Contents) (table : ℤ) (key body : List ℕ) → with_at space table key body (without_at space table key was) ≡ with_at space table key body was
+set_at_anew Rows was table key body = ap (λ (m : Bodies). record was { rows = m }) (set_anew was.rows (table, key) body)
+set_at_anew Pending was table key body = ap (λ (m : Bodies). record was { pending = m }) (set_anew was.pending (table, key) body)
 
 pub meta_removed : (meta : Meta) (name : List ℕ) → get (remove meta name) name ≡ None
 meta_removed meta name = get-remove nat_list_cmp_total meta name name ∙ ap (λ b. cond b None (get meta name)) ((eq_by_cmp_equiv nat_list_cmp_total).refl name)
@@ -67,22 +77,15 @@ take_there : {X : Type 0} (xs : List X) (i : ℕ) (x : X) → slice_get xs i ≡
 take_there xs i x there = take_more xs i x (slice_get_within xs i x there) ∙ ap (λ e. take i xs ++ e ∷ []) (get_or_from_slice_get xs i x x there)
 
 -- one edit more
-pub one_more : (a b c : State) (was : Contents) (edits : List BodyEdit) (i : ℕ) (edit : BodyEdit) → slice_get edits i ≡ Some edit → Edits (with_edits (take i edits) was) a b
-    → Edits (with_edit edit (contents_in b.now.trees)) b c → Edits (with_edits (take (i + 1) edits) was) a c
-one_more a b c was edits i edit there p q =
-    let all : take (i + 1) edits ≡ take i edits ++ edit ∷ [] = take_there edits i edit there in
-    let same : with_edit edit (with_edits (take i edits) was) ≡ with_edits (take (i + 1) edits) was =
-    ap (λ (m : Bodies). record was { rows = m }) (sym (ap (fold edit_body was.rows) all ∙ fold-append edit_body was.rows (take i edits) (edit ∷ []))) in
-    subst (λ k. Edits k a c) same (then_edits a b c (with_edits (take i edits) was) (with_edit edit) p q)
+edited_more : (space : Space) (was : Contents) (edits : List BodyEdit) (edit : BodyEdit) → with_edit space edit (with_edits space edits was) ≡ with_edits space (edits ++ edit ∷ []) was
+edited_more Rows was edits edit = ap (λ (m : Bodies). record was { rows = m }) (sym (fold-append edit_body was.rows edits (edit ∷ [])))
+edited_more Pending was edits edit = ap (λ (m : Bodies). record was { pending = m }) (sym (fold-append edit_body was.pending edits (edit ∷ [])))
 
--- one edit of pending changes more
-pub one_change_more : (a b c : State) (was : Contents) (edits : List BodyEdit) (i : ℕ) (edit : BodyEdit) → slice_get edits i ≡ Some edit → Edits (with_changes (take i edits) was) a b
-    → Edits (with_change edit (contents_in b.now.trees)) b c → Edits (with_changes (take (i + 1) edits) was) a c
-one_change_more a b c was edits i edit there p q =
-    let all : take (i + 1) edits ≡ take i edits ++ edit ∷ [] = take_there edits i edit there in
-    let same : with_change edit (with_changes (take i edits) was) ≡ with_changes (take (i + 1) edits) was =
-    ap (λ (m : Bodies). record was { pending = m }) (sym (ap (fold edit_body was.pending) all ∙ fold-append edit_body was.pending (take i edits) (edit ∷ []))) in
-    subst (λ k. Edits k a c) same (then_edits a b c (with_changes (take i edits) was) (with_change edit) p q)
+pub one_more : (space : Space) (a b c : State) (was : Contents) (edits : List BodyEdit) (i : ℕ) (edit : BodyEdit) → slice_get edits i ≡ Some edit → Edits (with_edits space (take i edits) was) a b
+    → Edits (with_edit space edit (contents_in b.now.trees)) b c → Edits (with_edits space (take (i + 1) edits) was) a c
+one_more space a b c was edits i edit there p q =
+    let same = edited_more space was (take i edits) edit ∙ ap (λ es. with_edits space es was) (sym (take_there edits i edit there)) in
+    subst (λ k. Edits k a c) same (then_edits a b c (with_edits space (take i edits) was) (with_edit space edit) p q)
 
 pub one_value_more : (a b c : State) (was : Contents) (edits : List MetaEdit) (i : ℕ) (edit : MetaEdit) → i < length edits → edit ≡ get_or edits i edit → Edits (with_values (take i edits) was) a b
     → Edits (with_value edit (contents_in b.now.trees)) b c → Edits (with_values (take (i + 1) edits) was) a c

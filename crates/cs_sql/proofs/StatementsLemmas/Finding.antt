@@ -1,5 +1,6 @@
 -- What the queries find.
-use Rattle.std.proofs.Common.{◌≡◌, inl, inr, ℕ, ℤ, List, [], ◌∷◌, map, Bool, Some, Ok, Err, Result, IfOk, IsTrue, refl, sym, ap, subst, ◌∙◌, arith}
+use Rattle.std.proofs.Common.{◌≡◌, inl, inr, ℕ, ℤ, List, [], ◌∷◌, map, Bool, Some, Ok, Err, Result, IfOk, IfErr, IsTrue, refl, sym, ap, subst, ◌∙◌, arith}
+use Rattle.std.specs.Global.{Vec}
 use Rattle.std.specs.declared.cmp.Ordering.{Ordering}
 use Rattle.std.specs.List.{filter}
 use Rattle.std.specs.List.Sorted.{IsPermutation}
@@ -21,12 +22,15 @@ use Rattle.sqlite.proofs.Callers.{IsPlain, reads_as, one_permutation, never_comm
 use Rattle.sqlite.proofs.StateLemmas.{survives_then}
 use Rattle.sqlite_rules.proofs.ListLemmas.{all_has, all_from}
 use Rattle.sqlite_value.specs.declared.value.Value.TheVariants.{Null, Int, Text as Words}
+use Rattle.cs_store.specs.Contents.{Bodies}
+use Rattle.cs_sql.specs.declared.statements.spaces.Space.{Space}
 use Rattle.cs_sql.specs.schema.Schemas.{store_schema}
-use Rattle.cs_sql.specs.statements.Tables.{IsRow, IsMeta, IsLog, IsMapped, IsKept, contents_in, row_pair, value_pair, entry_pair, select_row_text, select_meta_text, select_log_text, select_pending_text}
-use Rattle.cs_sql.specs.statements.Steps.{IsReady, IsOurs, Stays, first_read, body_read, item_read}
-use Rattle.cs_sql.proofs.StatementsLemmas.Meanings.{select_is, select_plain, select_meta_is, select_meta_plain, select_log_is, select_log_plain, select_pending_is, select_pending_plain, at_place, at_name, at_version, one_column, item_terms}
+use Rattle.cs_sql.specs.statements.Tables.{IsRow, IsMeta, IsLog, IsMapped, IsKept, contents_in, row_pair, value_pair, entry_pair, select_text, select_meta_text, select_log_text}
+use Rattle.cs_sql.specs.statements.Steps.{IsReady, IsOurs, Stays, first_read, body_read, item_read, placed}
+use Rattle.cs_sql.proofs.StatementsLemmas.Meanings.{select_is, select_plain, select_meta_is, select_meta_plain, select_log_is, select_log_plain, tree_of, at_place, at_name, at_version, one_column, item_terms}
 use Rattle.cs_sql.proofs.StatementsLemmas.Answers.{place_total, place_exact, params_at, passes_on, passes_is, name_passes, version_passes, shown, answer_is}
 use Rattle.cs_sql.proofs.StatementsLemmas.Apart.{none, one, finds_one}
+use Rattle.cs_sql.proofs.StatementsLemmas.Spaces.{answer_at, mapped_at, placed_is}
 
 -- ---- one body
 
@@ -44,17 +48,13 @@ module _ {K : Type 0} {R : K → K → Ordering} (total : IsTotalOrder R) (exact
   ]
 
 module _ (old new : State) (has : IsKept old.now) (rows : List Row) where
-  pub selects_row : (table : ℤ) (key : List ℕ) → Shown select_row_text (params_at table key) old new rows → first_read body_read rows ≡ get (contents_in old.now.trees).rows (table, key)
-  selects_row table key h =
-      let a = reads_as select_row_text (params_at table key) old new store_schema has.schema _ select_is.0 select_plain select_is.1 rows h in
-      finds_body place_total place_exact row_pair IsRow (one_column 3) (params_at table key) body_read (λ r it. rw it.4 refl) (passes_on at_place (params_at table key)) (table, key) (old.now.trees 0) rows has.rows
-      (λ r it. passes_is table key [] r it) (answer_is 0 at_place (one_column 3) [] old.now.trees (params_at table key) rows (a.answer Null))
-
-  pub selects_pending : (table : ℤ) (key : List ℕ) → Shown select_pending_text (params_at table key) old new rows → first_read body_read rows ≡ get (contents_in old.now.trees).pending (table, key)
-  selects_pending table key h =
-      let a = reads_as select_pending_text (params_at table key) old new store_schema has.schema _ select_pending_is.0 select_pending_plain select_pending_is.1 rows h in
-      finds_body place_total place_exact row_pair IsRow (one_column 3) (params_at table key) body_read (λ r it. rw it.4 refl) (passes_on at_place (params_at table key)) (table, key) (old.now.trees 5) rows has.pending
-      (λ r it. passes_is table key [] r it) (answer_is 5 at_place (one_column 3) [] old.now.trees (params_at table key) rows (a.answer Null))
+  pub selects_at : (space : Space) (table : ℤ) (key : List ℕ) → Shown (select_text space) (params_at table key) old new rows → first_read body_read rows ≡ get (placed space (contents_in old.now.trees)) (table, key)
+  selects_at space table key h =
+      let a = reads_as (select_text space) (params_at table key) old new store_schema has.schema _ (select_is space).0 (select_plain space) (select_is space).1 rows h in
+      let es = old.now.trees (tree_of space) in
+      finds_body place_total place_exact row_pair IsRow (one_column 3) (params_at table key) body_read (λ r it. rw it.4 refl) (passes_on at_place (params_at table key)) (table, key) es rows (mapped_at space old.now has)
+      (λ r it. passes_is table key [] r it) (answer_at space at_place (one_column 3) old.now.trees (params_at table key) rows (a.answer Null))
+      ∙ ap (λ (m : Bodies). get m (table, key)) (sym (placed_is space old.now.trees))
 
   pub selects_meta : (name : List ℕ) → Shown select_meta_text (Words name ∷ []) old new rows → first_read body_read rows ≡ get (contents_in old.now.trees).meta name
   selects_meta name h =
@@ -106,10 +106,6 @@ ready_ours s r = record { schema = r.kept.schema; settled = r.settled }
 pub ready_all : (s : State) → (HasCleanDisk s → IsTrue s.is_open → IsReady s) → HasCleanDisk s → IsTrue s.is_open → IsOurs s
 ready_all s ready clean opened = ready_ours s (ready clean opened)
 
--- what a probe left shows the store's tables
-pub probed_kept : (start mid : State) → (HasCleanDisk start → IsTrue start.is_open → IsReady start) → (HasCleanDisk mid → IsUnchanged start mid) → Survives start mid (λ _. ⊥) → HasCleanDisk mid → IsKept mid.now
-probed_kept start mid ready probed first clean = let u = probed clean in subst IsKept (sym u.0.now_is) (ready (omega (arith, first.clean)) u.0.was_open).kept
-
 module _ (sql : List ℕ) (plain : IsPlain (understood store_schema sql)) (params : Row) (start mid end : State) (ours : HasCleanDisk start → IsTrue start.is_open → IsOurs start)
     (probed : HasCleanDisk mid → IsUnchanged start mid) (first : Survives start mid (λ _. ⊥)) (second : Survives mid end (CommitsShowing sql params mid)) where
   pub probed_schema : HasCleanDisk mid → mid.now.schema ≡ store_schema
@@ -128,12 +124,13 @@ module _ (sql : List ℕ) (plain : IsPlain (understood store_schema sql)) (param
   query_failed e clean h =
       let late : HasCleanDisk mid = omega (arith, second.clean) in stays_then start mid end (stays_unchanged start mid (probed late)) (stays_failed sql params mid end (mid_plain late) e (λ _. mid_settled late) h)
 
-  pub query_open : (rows : List Row) → HasCleanDisk end → Shown sql params mid end rows → IsUnchanged mid end
-  query_open rows clean h = shown_unchanged sql params mid end (mid_plain (omega (arith, second.clean))) rows h
-
   pub query_shown : (rows : List Row) → HasCleanDisk end → Shown sql params mid end rows → Stays start end
   query_shown rows clean h =
       let late : HasCleanDisk mid = omega (arith, second.clean) in stays_then start mid end (stays_unchanged start mid (probed late)) (stays_unchanged mid end (shown_unchanged sql params mid end (mid_plain late) rows h))
+
+  pub query_stays : (r : Result (Vec Row) Error) → HasCleanDisk end → IfOk r (λ rows. Shown sql params mid end rows.items) → IfErr r (FailsToQuery sql params mid end) → Stays start end
+  query_stays (Ok rows) clean shown fails = query_shown rows.items clean shown
+  query_stays (Err e) clean shown fails = query_failed e clean fails
 
 pub ok_then : {T E : Type 0} (P Q : T → Type 0) (r : Result T E) → ((x : T) → P x → Q x) → IfOk r P → IfOk r Q
 ok_then P Q (Ok x) f h = f x h

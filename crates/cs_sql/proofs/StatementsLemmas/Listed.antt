@@ -22,11 +22,13 @@ use Rattle.sqlite_value.specs.declared.value.Value.TheVariants.{Null, Int, Blob}
 use Rattle.sqlite_value.specs.Order.{bytes, value_cmp}
 use Rattle.sqlite_value.proofs.OrderLemmas.{value_cmp-Blob}
 use Rattle.cs_order.specs.Order.{by_bytes}
-use Rattle.cs_store.specs.Contents.{IsListing, place_cmp}
+use Rattle.cs_store.specs.Contents.{Bodies, IsListing, place_cmp}
 use Rattle.cs_sql.specs.schema.Schemas.{store_schema}
-use Rattle.cs_sql.specs.statements.Tables.{list_rows_text, list_pending_text, IsRow, IsMapped, IsKept, Apart, same_key, row_pair, contents_in}
-use Rattle.cs_sql.specs.statements.Steps.{pair_read}
-use Rattle.cs_sql.proofs.StatementsLemmas.Meanings.{in_table, pair_terms, pairs_in, rising_by, list_is, list_plain, list_pending_is, list_pending_plain}
+use Rattle.cs_sql.specs.statements.Tables.{list_text, IsRow, IsMapped, IsKept, Apart, same_key, row_pair, contents_in}
+use Rattle.cs_sql.specs.statements.Steps.{pair_read, placed}
+use Rattle.cs_sql.proofs.StatementsLemmas.Meanings.{in_table, pair_terms, pairs_in, rising_by, tree_of, list_is, list_plain}
+use Rattle.cs_sql.proofs.StatementsLemmas.Spaces.{mapped_at, placed_is, uncovered}
+use Rattle.cs_sql.specs.declared.statements.spaces.Space.{Space}
 use Rattle.cs_sql.proofs.StatementsLemmas.Answers.{place_total, passes_on, table_passes, given, ordered_is}
 use Rattle.cs_sql.proofs.StatementsLemmas.Apart.{all_filter, apart_filter}
 use Rattle.cs_sql.proofs.StatementsLemmas.Orders.{all_permutation, apart_map, apart_permutation, tied, find_permutation, DontFall, rises}
@@ -131,14 +133,10 @@ module _ (tree : ℕ) (table : ℤ) (es : List Row) (m : IsMapped place_cmp row_
       keyed_all (r ∷ rs) all = (rw all.0.4 refl, keyed_all rs all.1)
 
 module _ (old new : State) (has : IsKept old.now) (rows : List Row) (table : ℤ) where
-  pub lists_rows : Shown list_rows_text (Int table ∷ []) old new rows → IsListing (λ key. get (contents_in old.now.trees).rows (table, key)) (map pair_read rows)
-  lists_rows h =
-      let a = reads_as list_rows_text (Int table ∷ []) old new store_schema has.schema _ list_is.0 list_plain list_is.1 rows h in
-      let it = ordered_is 0 in_table pair_terms (rising_by 2) old.now.trees (Int table ∷ []) rows (a.answer Null) in
-      lists 0 table (old.now.trees 0) has.rows it.ordered rows it.same it.sorted it.shown_are
-
-  pub lists_pending : Shown list_pending_text (Int table ∷ []) old new rows → IsListing (λ key. get (contents_in old.now.trees).pending (table, key)) (map pair_read rows)
-  lists_pending h =
-      let a = reads_as list_pending_text (Int table ∷ []) old new store_schema has.schema _ list_pending_is.0 list_pending_plain list_pending_is.1 rows h in
-      let it = ordered_is 5 in_table pair_terms (rising_by 2) old.now.trees (Int table ∷ []) rows (a.answer Null) in
-      lists 5 table (old.now.trees 5) has.pending it.ordered rows it.same it.sorted it.shown_are
+  pub lists_at : (space : Space) → Shown (list_text space) (Int table ∷ []) old new rows → IsListing (λ key. get (placed space (contents_in old.now.trees)) (table, key)) (map pair_read rows)
+  lists_at space h =
+      let a = reads_as (list_text space) (Int table ∷ []) old new store_schema has.schema _ (list_is space).0 (list_plain space) (list_is space).1 rows h in
+      let it = ordered_is (tree_of space) in_table pair_terms (rising_by 2) old.now.trees (Int table ∷ []) rows (a.answer Null) in
+      let same = subst (λ (es : List Row). IsPermutation (map (given (pairs_in (tree_of space)) (Int table ∷ [])) (filter (passes_on in_table (Int table ∷ [])) es)) it.ordered) (uncovered space old.now.trees) it.same in
+      let listing = lists (tree_of space) table (old.now.trees (tree_of space)) (mapped_at space old.now has) it.ordered rows same it.sorted it.shown_are in
+      subst (λ (m : Bodies). IsListing (λ key. get m (table, key)) (map pair_read rows)) (sym (placed_is space old.now.trees)) listing

@@ -12,8 +12,11 @@ use Rattle.sqlite_value.specs.declared.keys.Key.{Key}
 use Rattle.sqlite_sql.specs.declared.ops.BinaryOp.TheVariants.{Compare}
 use Rattle.sqlite_sql.specs.declared.ops.CompareOp.TheVariants.{Eq, Ge, Lt}
 use Rattle.sqlite_tied.specs.Compute.{everything}
-use Rattle.cs_sql.specs.schema.Schemas.{front_schema, store_schema}
-use Rattle.cs_sql.specs.statements.Tables.{remove_pending_text, insert_pending_text, select_pending_text, list_pending_text, rows_ids_text, meta_ids_text, log_ids_text, pending_ids_text, all_rows_text, all_pending_text, all_names_text, all_bodies_text, remove_row_text, insert_row_text, select_row_text, list_rows_text, remove_meta_text, insert_meta_text, select_meta_text, insert_log_text, select_log_text, list_log_text}
+use Rattle.sqlite.specs.Table.{Table}
+use Rattle.cs_sql.specs.declared.statements.spaces.Space.{Space}
+use Rattle.cs_sql.specs.declared.statements.spaces.Space.TheVariants.{Rows, Pending}
+use Rattle.cs_sql.specs.schema.Schemas.{front_schema, placed_at, store_schema}
+use Rattle.cs_sql.specs.statements.Tables.{remove_text, insert_text, select_text, list_text, rows_ids_text, meta_ids_text, log_ids_text, pending_ids_text, all_rows_text, all_pending_text, all_names_text, all_bodies_text, remove_meta_text, insert_meta_text, select_meta_text, insert_log_text, select_log_text, list_log_text}
 
 -- the terms of `tab = ?1 AND key = ?2`
 abbrev pub at_place : List Term
@@ -53,11 +56,24 @@ one_column at = col 1 at ∷ []
 abbrev pub rising_by : ℕ → List (Term × Key)
 rising_by at = (col 1 at, record { collation = Binary; descending = false }) ∷ []
 
-abbrev pub query_at : ℕ → Query
-query_at at = query_on 0 at_place (one_column at) []
+-- one of the two tables with bodies at places, its tree, and where it stands in the schema
+abbrev pub name_of : Space → List ℕ
+name_of Rows = codes "rows"
+name_of Pending = codes "pending"
 
-abbrev pub pending_at : ℕ → Query
-pending_at at = query_on 5 at_place (one_column at) []
+abbrev pub tree_of : Space → ℕ
+tree_of Rows = 0
+tree_of Pending = 5
+
+abbrev pub table_of : Space → Table
+table_of space = placed_at (name_of space) (tree_of space)
+
+abbrev pub index_of : Space → ℕ
+index_of Rows = 0
+index_of Pending = 3
+
+abbrev pub query_at : Space → ℕ → Query
+query_at space at = query_on (tree_of space) at_place (one_column at) []
 
 abbrev pub meta_at : ℕ → Query
 meta_at at = query_on 2 at_name (one_column at) []
@@ -90,40 +106,28 @@ pairs_in tree = query_on tree in_table pair_terms (rising_by 2)
 abbrev pub ids_in : ℕ → Query
 ids_in tree = query_on tree [] (one_column 0) (rising_by 0)
 
-pub remove_is : command_of (understood store_schema remove_row_text) ≡ Delete 0 (record { lets = []; body = query_at 0 })
+pub remove_is : (space : Space) → command_of (understood store_schema (remove_text space)) ≡ Delete (index_of space) (record { lets = []; body = query_at space 0 })
 unfolding understood everything
-remove_is = refl
+remove_is Rows = refl
+remove_is Pending = refl
 
-pub remove_plain : IsPlain (understood store_schema remove_row_text)
+pub remove_plain : (space : Space) → IsPlain (understood store_schema (remove_text space))
 unfolding understood everything
-remove_plain = (refl, refl)
+remove_plain Rows = (refl, refl)
+remove_plain Pending = (refl, refl)
 
 abbrev pub row_terms : List Term
 row_terms = lit Null ∷ col 0 0 ∷ col 0 1 ∷ col 0 2 ∷ []
 
-pub insert_is : command_of (understood store_schema insert_row_text) ≡ Insert 0 (Values row_terms 4)
+pub insert_is : (space : Space) → command_of (understood store_schema (insert_text space)) ≡ Insert (index_of space) (Values row_terms 4)
 unfolding understood everything
-insert_is = refl
+insert_is Rows = refl
+insert_is Pending = refl
 
-pub insert_plain : IsPlain (understood store_schema insert_row_text)
+pub insert_plain : (space : Space) → IsPlain (understood store_schema (insert_text space))
 unfolding understood everything
-insert_plain = (refl, refl)
-
-pub remove_pending_is : command_of (understood store_schema remove_pending_text) ≡ Delete 3 (record { lets = []; body = pending_at 0 })
-unfolding understood everything
-remove_pending_is = refl
-
-pub remove_pending_plain : IsPlain (understood store_schema remove_pending_text)
-unfolding understood everything
-remove_pending_plain = (refl, refl)
-
-pub insert_pending_is : command_of (understood store_schema insert_pending_text) ≡ Insert 3 (Values row_terms 4)
-unfolding understood everything
-insert_pending_is = refl
-
-pub insert_pending_plain : IsPlain (understood store_schema insert_pending_text)
-unfolding understood everything
-insert_pending_plain = (refl, refl)
+insert_plain Rows = (refl, refl)
+insert_plain Pending = (refl, refl)
 
 pub remove_meta_is : command_of (understood store_schema remove_meta_text) ≡ Delete 1 (record { lets = []; body = meta_at 0 })
 unfolding understood everything
@@ -155,13 +159,15 @@ pub insert_log_plain : IsPlain (understood store_schema insert_log_text)
 unfolding understood everything
 insert_log_plain = (refl, refl)
 
-pub select_is : (command_of (understood store_schema select_row_text) ≡ Select (record { lets = []; body = query_at 3 }) (codes "body" ∷ [])) × (reads_listing store_schema select_row_text ≡ false)
+pub select_is : (space : Space) → (command_of (understood store_schema (select_text space)) ≡ Select (record { lets = []; body = query_at space 3 }) (codes "body" ∷ [])) × (reads_listing store_schema (select_text space) ≡ false)
 unfolding understood everything
-select_is = (refl, refl)
+select_is Rows = (refl, refl)
+select_is Pending = (refl, refl)
 
-pub select_plain : IsPlain (understood store_schema select_row_text)
+pub select_plain : (space : Space) → IsPlain (understood store_schema (select_text space))
 unfolding understood everything
-select_plain = (refl, refl)
+select_plain Rows = (refl, refl)
+select_plain Pending = (refl, refl)
 
 pub select_meta_is : (command_of (understood store_schema select_meta_text) ≡ Select (record { lets = []; body = meta_at 2 }) (codes "body" ∷ [])) × (reads_listing store_schema select_meta_text ≡ false)
 unfolding understood everything
@@ -187,29 +193,15 @@ pub list_log_plain : IsPlain (understood store_schema list_log_text)
 unfolding understood everything
 list_log_plain = (refl, refl)
 
-pub list_is : (command_of (understood store_schema list_rows_text) ≡ Select (record { lets = []; body = pairs_in 0 }) (codes "key" ∷ codes "body" ∷ [])) × (reads_listing store_schema list_rows_text ≡ false)
+pub list_is : (space : Space) → (command_of (understood store_schema (list_text space)) ≡ Select (record { lets = []; body = pairs_in (tree_of space) }) (codes "key" ∷ codes "body" ∷ [])) × (reads_listing store_schema (list_text space) ≡ false)
 unfolding understood everything
-list_is = (refl, refl)
+list_is Rows = (refl, refl)
+list_is Pending = (refl, refl)
 
-pub list_plain : IsPlain (understood store_schema list_rows_text)
+pub list_plain : (space : Space) → IsPlain (understood store_schema (list_text space))
 unfolding understood everything
-list_plain = (refl, refl)
-
-pub select_pending_is : (command_of (understood store_schema select_pending_text) ≡ Select (record { lets = []; body = pending_at 3 }) (codes "body" ∷ [])) × (reads_listing store_schema select_pending_text ≡ false)
-unfolding understood everything
-select_pending_is = (refl, refl)
-
-pub select_pending_plain : IsPlain (understood store_schema select_pending_text)
-unfolding understood everything
-select_pending_plain = (refl, refl)
-
-pub list_pending_is : (command_of (understood store_schema list_pending_text) ≡ Select (record { lets = []; body = pairs_in 5 }) (codes "key" ∷ codes "body" ∷ [])) × (reads_listing store_schema list_pending_text ≡ false)
-unfolding understood everything
-list_pending_is = (refl, refl)
-
-pub list_pending_plain : IsPlain (understood store_schema list_pending_text)
-unfolding understood everything
-list_pending_plain = (refl, refl)
+list_plain Rows = (refl, refl)
+list_plain Pending = (refl, refl)
 
 pub rows_ids_front : (command_of (understood front_schema rows_ids_text) ≡ Select (record { lets = []; body = ids_in 0 }) (codes "rowid" ∷ [])) × (reads_listing front_schema rows_ids_text ≡ false) × IsPlain (understood front_schema rows_ids_text)
 unfolding understood everything

@@ -1,7 +1,7 @@
 -- What the statements make of the contents.
 use Rattle.std.proofs.Common.{◌≡◌, Option, Some, ◌⊎◌, inl, inr, ℕ, ℤ, List, [], ◌∷◌, map, Bool, true, false, not, ◌&&◌, cond, None, Ok, Err, Result, OnOk, IsTrue, refl, sym, ap, subst, ◌∙◌, arith}
 use Rattle.std.specs.List.{filter, AllByRecursion}
-use Rattle.std.specs.FinMap.{get, get-from_entries}
+use Rattle.std.specs.FinMap.{get, get-from_entries, insert, remove}
 use Rattle.std.specs.Ordering.{is_eq, eq_by_cmp, int_cmp}
 use Rattle.std.specs.Cmp.{eq_by_cmp_equiv}
 use Rattle.std.proofs.lemmas.Cmp.{int_cmp_total, nat_list_cmp_total}
@@ -38,13 +38,15 @@ use Rattle.sqlite_value.specs.declared.value.Value.TheVariants.{Null, Int, Blob,
 use Rattle.sqlite_value.specs.Order.{value_cmp}
 use Rattle.sqlite_value.proofs.OrderLemmas.{value_cmp-Int}
 use Rattle.cs_order.specs.Order.{by_bytes}
-use Rattle.cs_store.specs.Contents.{Contents, LogItem, place_cmp}
-use Rattle.cs_sql.specs.schema.Schemas.{store_schema, rows_table, meta_table, log_table, pending_table}
-use Rattle.cs_sql.specs.statements.Tables.{number_of, remove_row_text, insert_row_text, remove_pending_text, insert_pending_text, remove_meta_text, insert_meta_text, insert_log_text, IsRow, IsMeta, IsLog, IsMapped, IsKept, contents_in, row_pair, value_pair, entry_pair}
-use Rattle.cs_sql.specs.statements.Steps.{IsInside, Edits, without_row, with_row, without_pending, with_pending, without_named, with_named, with_log}
-use Rattle.cs_sql.proofs.StatementsLemmas.Meanings.{remove_is, remove_plain, remove_pending_is, remove_pending_plain, insert_pending_is, insert_pending_plain, query_at, pending_at, one_column, meta_at, at_place, at_name, insert_is, insert_plain, row_terms, remove_meta_is, remove_meta_plain, insert_meta_is, insert_meta_plain, meta_terms, insert_log_is, insert_log_plain, log_terms}
+use Rattle.cs_store.specs.Contents.{Bodies, Contents, LogItem, place_cmp}
+use Rattle.cs_sql.specs.schema.Schemas.{store_schema, meta_table, log_table}
+use Rattle.cs_sql.specs.declared.statements.spaces.Space.{Space}
+use Rattle.cs_sql.specs.statements.Tables.{number_of, remove_text, insert_text, remove_meta_text, insert_meta_text, insert_log_text, IsRow, IsMeta, IsLog, IsMapped, IsKept, contents_in, row_pair, value_pair, entry_pair}
+use Rattle.cs_sql.specs.statements.Steps.{IsInside, Edits, placed, with_placed, without_at, with_at, without_named, with_named, with_log}
+use Rattle.cs_sql.proofs.StatementsLemmas.Meanings.{index_of, table_of, tree_of, remove_is, remove_plain, query_at, one_column, meta_at, at_place, at_name, insert_is, insert_plain, row_terms, remove_meta_is, remove_meta_plain, insert_meta_is, insert_meta_plain, meta_terms, insert_log_is, insert_log_plain, log_terms}
 use Rattle.cs_sql.proofs.StatementsLemmas.Answers.{place_total, place_exact, params_at, passes, passes_on, passes_is, name_passes, answer_is}
 use Rattle.cs_sql.proofs.StatementsLemmas.Apart.{mapped_without, mapped_with, none_at, find_none, both_or}
+use Rattle.cs_sql.proofs.StatementsLemmas.Spaces.{answer_at, kept_at, mapped_at, placed_is, stands}
 use Rattle.cs_sql.proofs.StatementsLemmas.Removal.{removed_is}
 use Rattle.cs_sql.proofs.StatementsLemmas.Keyed.{map_without, map_with}
 
@@ -76,59 +78,25 @@ module _ (limit : Option ℕ) (mode : Mode) (table : Table) (given : Row) (db : 
       let in_now : after.trees ≡ left.0 = ap (λ (d : Database). d.trees) now ∙ trees in
       (ap (λ (d : Database). d.schema) now, (found.0, found.1.answer Null, subst (Applies store_schema mode.keys db (edit_of db table (ids_of found.0) Given 0 [])) (sym in_now) step))
 
-module _ (old new : State) (table : ℤ) (key : List ℕ) (has : IsKept old.now) where
-  pub removes : (count : ℕ) → Executes remove_row_text (params_at table key) old new (Ok count) → IsKept new.now × (contents_in new.now.trees ≡ without_row table key (contents_in old.now.trees))
+module _ (space : Space) (old new : State) (table : ℤ) (key : List ℕ) (has : IsKept old.now) where
+  pub removes : (count : ℕ) → Executes (remove_text space) (params_at table key) old new (Ok count) → IsKept new.now × (contents_in new.now.trees ≡ without_at space table key (contents_in old.now.trees))
   removes count h =
       let given = params_at table key in
       let db = old.now.trees in
-      let command = Delete 0 (record { lets = []; body = query_at 0 }) in
-      let w = runs_as remove_row_text given old new store_schema has.schema command remove_is remove_plain count h in
-      let text = statement_of remove_row_text (understood store_schema remove_row_text) in
-      let did = deletes_on old.step_limit (mode_of old) rows_table given db 0 (query_at 0) w.tally new.now
-      (subst (λ s. Does old.step_limit (mode_of old) given (record old.now { schema = s }) text None command (Ok (w.tally, new.now))) has.schema w.changed) (λ _. refl) in
+      let es = db (tree_of space) in
+      let command = Delete (index_of space) (record { lets = []; body = query_at space 0 }) in
+      let w = runs_as (remove_text space) given old new store_schema has.schema command (remove_is space) (remove_plain space) count h in
+      let text = statement_of (remove_text space) (understood store_schema (remove_text space)) in
+      let did = deletes_on old.step_limit (mode_of old) (table_of space) given db (index_of space) (query_at space 0) w.tally new.now
+      (stands space old.step_limit (mode_of old) given db (λ task. OnRows task (mode_of old) None command db) (Ok (w.tally, new.now))
+      (subst (λ s. Does old.step_limit (mode_of old) given (record old.now { schema = s }) text None command (Ok (w.tally, new.now))) has.schema w.changed)) (λ _. refl) in
       let step = did.1.2 in
       let p = passes given in
-      let rows : new.now.trees 0 ≡ filter (λ r. not (p r)) (db 0) = step.rows ∙ removed_is p (db 0) has.rows.ids_apart (keyed IsRow (λ r it. rw it.4 refl) (db 0) has.rows.typed) did.1.0 (answer_is 0 at_place (one_column 0) [] db given did.1.0 did.1.1) in
-      let meta : new.now.trees 2 ≡ db 2 = step.tables.1.0 (λ e. omega (arith, e)) in
-      let log : new.now.trees 4 ≡ db 4 = step.tables.1.1.0 (λ e. omega (arith, e)) in
-      let pending : new.now.trees 5 ≡ db 5 = step.tables.1.1.1.0 (λ e. omega (arith, e)) in
-      let map_is = map_without place_total place_exact row_pair p (table, key) (db 0) (all_from _ (db 0) (λ r m. passes_is table key [] r (all_has _ (db 0) r has.rows.typed m))) in (
-        record {
-          schema = did.0;
-          rows = subst (IsMapped place_cmp row_pair IsRow) (sym rows) (mapped_without place_total place_exact row_pair IsRow (λ r. not (p r)) (db 0) has.rows);
-          meta = subst (IsMapped (by_bytes) value_pair IsMeta) (sym meta) has.meta;
-          log = subst (IsMapped int_cmp entry_pair IsLog) (sym log) has.log;
-          pending = subst (IsMapped place_cmp row_pair IsRow) (sym pending) has.pending;
-        },
-        rw (rows, pending, meta, log, map_is) refl,
-      )
-
-module _ (old new : State) (table : ℤ) (key : List ℕ) (has : IsKept old.now) where
-  pub removes_pending : (count : ℕ) → Executes remove_pending_text (params_at table key) old new (Ok count) → IsKept new.now × (contents_in new.now.trees ≡ without_pending table key (contents_in old.now.trees))
-  removes_pending count h =
-      let given = params_at table key in
-      let db = old.now.trees in
-      let command = Delete 3 (record { lets = []; body = pending_at 0 }) in
-      let w = runs_as remove_pending_text given old new store_schema has.schema command remove_pending_is remove_pending_plain count h in
-      let text = statement_of remove_pending_text (understood store_schema remove_pending_text) in
-      let did = deletes_on old.step_limit (mode_of old) (record pending_table { tree = 5 }) given db 3 (pending_at 0) w.tally new.now
-      (subst (λ s. Does old.step_limit (mode_of old) given (record old.now { schema = s }) text None command (Ok (w.tally, new.now))) has.schema w.changed) (λ _. refl) in
-      let step = did.1.2 in
-      let p = passes given in
-      let pending : new.now.trees 5 ≡ filter (λ r. not (p r)) (db 5) = step.rows ∙ removed_is p (db 5) has.pending.ids_apart (keyed IsRow (λ r it. rw it.4 refl) (db 5) has.pending.typed) did.1.0 (answer_is 5 at_place (one_column 0) [] db given did.1.0 did.1.1) in
-      let meta : new.now.trees 2 ≡ db 2 = step.tables.1.0 (λ e. omega (arith, e)) in
-      let log : new.now.trees 4 ≡ db 4 = step.tables.1.1.0 (λ e. omega (arith, e)) in
-      let rows : new.now.trees 0 ≡ db 0 = step.tables.0 (λ e. omega (arith, e)) in
-      let map_is = map_without place_total place_exact row_pair p (table, key) (db 5) (all_from _ (db 5) (λ r m. passes_is table key [] r (all_has _ (db 5) r has.pending.typed m))) in (
-        record {
-          schema = did.0;
-          rows = subst (IsMapped place_cmp row_pair IsRow) (sym rows) has.rows;
-          meta = subst (IsMapped (by_bytes) value_pair IsMeta) (sym meta) has.meta;
-          log = subst (IsMapped int_cmp entry_pair IsLog) (sym log) has.log;
-          pending = subst (IsMapped place_cmp row_pair IsRow) (sym pending) (mapped_without place_total place_exact row_pair IsRow (λ r. not (p r)) (db 5) has.pending);
-        },
-        rw (rows, pending, meta, log, map_is) refl,
-      )
+      let mapped = mapped_at space old.now has in
+      let rows : new.now.trees (tree_of space) ≡ filter (λ r. not (p r)) es = step.rows ∙ removed_is p es mapped.ids_apart (keyed IsRow (λ r it. rw it.4 refl) es mapped.typed) did.1.0 (answer_at space at_place (one_column 0) db given did.1.0 did.1.1) in
+      let map_is = map_without place_total place_exact row_pair p (table, key) es (all_from _ es (λ r m. passes_is table key [] r (all_has _ es r mapped.typed m))) in
+      let left = kept_at space old.now new.now (filter (λ r. not (p r)) es) has did.0 rows (mapped_without place_total place_exact row_pair IsRow (λ r. not (p r)) es mapped) step.tables in
+      (left.0, left.1 ∙ ap (λ (m : Bodies). with_placed space m (contents_in db)) (map_is ∙ ap (λ (m : Bodies). remove m (table, key)) (sym (placed_is space db))))
 
 module _ (old new : State) (name : List ℕ) (has : IsKept old.now) where
   pub removes_meta : (count : ℕ) → Executes remove_meta_text (Words name ∷ []) old new (Ok count) → IsKept new.now × (contents_in new.now.trees ≡ without_named name (contents_in old.now.trees))
@@ -175,78 +143,37 @@ not_false : (b : Bool) → (not b && true) ≡ true → b ≡ false
 not_false true e = absurd cc
 not_false false e = refl
 
-module _ (old new : State) (table : ℤ) (key body : List ℕ) (has : IsKept old.now) where
-  pub inserts : (count : ℕ) → get (contents_in old.now.trees).rows (table, key) ≡ None → Executes insert_row_text (Int table ∷ Blob key ∷ Blob body ∷ []) old new (Ok count)
-      → IsKept new.now × (contents_in new.now.trees ≡ with_row table key body (contents_in old.now.trees))
+module _ (space : Space) (old new : State) (table : ℤ) (key body : List ℕ) (has : IsKept old.now) where
+  pub inserts : (count : ℕ) → get (placed space (contents_in old.now.trees)) (table, key) ≡ None → Executes (insert_text space) (Int table ∷ Blob key ∷ Blob body ∷ []) old new (Ok count)
+      → IsKept new.now × (contents_in new.now.trees ≡ with_at space table key body (contents_in old.now.trees))
   inserts count absent h =
       let given = Int table ∷ Blob key ∷ Blob body ∷ [] in
       let db = old.now.trees in
-      let command = Insert 0 (Values row_terms 4) in
-      let w = runs_as insert_row_text given old new store_schema has.schema command insert_is insert_plain count h in
-      let text = statement_of insert_row_text (understood store_schema insert_row_text) in
-      let done = went (subst (λ s. Does old.step_limit (mode_of old) given (record old.now { schema = s }) text None command (Ok (w.tally, new.now))) has.schema w.changed) in
+      let es = db (tree_of space) in
+      let command = Insert (index_of space) (Values row_terms 4) in
+      let w = runs_as (insert_text space) given old new store_schema has.schema command (insert_is space) (insert_plain space) count h in
+      let text = statement_of (insert_text space) (understood store_schema (insert_text space)) in
+      let done = went (stands space old.step_limit (mode_of old) given db (λ task. OnRows task (mode_of old) None command db) (Ok (w.tally, new.now))
+      (subst (λ s. Does old.step_limit (mode_of old) given (record old.now { schema = s }) text None command (Ok (w.tally, new.now))) has.schema w.changed)) in
       let now = ap (λ (p : Tally × Database). p.1) (same_value (went (went done.2).2).2) in
       let found = went done.1 in
       let put = went (went found.2).2 in
       let counted = went put.2 in
       let trees : done.0.trees ≡ put.0 = ap (λ (it : Written). it.trees) (same_value counted.2) ∙ same_value counted.1 in
-      let step = one_step store_schema _ db put.0 (edit_of db rows_table [] Chosen 0 found.0) refl put.1 in
-      let row : Row = Int (next_rowid (db 0)) ∷ Int table ∷ Blob key ∷ Blob body ∷ [] in
-      let news : (edit_of db rows_table [] Chosen 0 found.0).news ≡ row ∷ [] = ap (λ all. (edit_of db rows_table [] Chosen 0 all).news) found.1.1 ∙ rw (cast_null, cast_int table) refl in
+      let edit = edit_of db (table_of space) [] Chosen 0 found.0 in
       let in_now : new.now.trees ≡ put.0 = ap (λ (d : Database). d.trees) now ∙ trees in
-      let rows : new.now.trees 0 ≡ put_row row (db 0) = ap (λ (t : Trees). t 0) in_now ∙ step.rows ∙ ap (put_all (db 0)) news in
-      let free : is_taken (db 0) row ≡ false = not_false _ (subst (λ all. are_fresh (db 0) all ≡ true) news step.fresh) in
-      let meta : new.now.trees 2 ≡ db 2 = ap (λ (t : Trees). t 2) in_now ∙ step.tables.1.0 (λ e. omega (arith, e)) in
-      let log : new.now.trees 4 ≡ db 4 = ap (λ (t : Trees). t 4) in_now ∙ step.tables.1.1.0 (λ e. omega (arith, e)) in
-      let pending : new.now.trees 5 ≡ db 5 = ap (λ (t : Trees). t 5) in_now ∙ step.tables.1.1.1.0 (λ e. omega (arith, e)) in
-      let none = none_at place_total place_exact row_pair IsRow (table, key) (db 0) (sym (get-from_entries place_total (map row_pair (db 0)) (table, key)) ∙ absent) in
-      let map_is = map_with place_total place_exact row_pair row (db 0) free none in (
-        record {
-          schema = ap (λ (d : Database). d.schema) now;
-          rows = subst (IsMapped place_cmp row_pair IsRow) (sym rows) (mapped_with place_total place_exact row_pair IsRow row (db 0) free none (next_rowid (db 0), table, key, body, refl) has.rows);
-          meta = subst (IsMapped (by_bytes) value_pair IsMeta) (sym meta) has.meta;
-          log = subst (IsMapped int_cmp entry_pair IsLog) (sym log) has.log;
-          pending = subst (IsMapped place_cmp row_pair IsRow) (sym pending) has.pending;
-        },
-        rw (rows, pending, meta, log, map_is) refl,
-      )
-
-module _ (old new : State) (table : ℤ) (key body : List ℕ) (has : IsKept old.now) where
-  pub inserts_pending : (count : ℕ) → get (contents_in old.now.trees).pending (table, key) ≡ None → Executes insert_pending_text (Int table ∷ Blob key ∷ Blob body ∷ []) old new (Ok count)
-      → IsKept new.now × (contents_in new.now.trees ≡ with_pending table key body (contents_in old.now.trees))
-  inserts_pending count absent h =
-      let given = Int table ∷ Blob key ∷ Blob body ∷ [] in
-      let db = old.now.trees in
-      let command = Insert 3 (Values row_terms 4) in
-      let w = runs_as insert_pending_text given old new store_schema has.schema command insert_pending_is insert_pending_plain count h in
-      let text = statement_of insert_pending_text (understood store_schema insert_pending_text) in
-      let done = went (subst (λ s. Does old.step_limit (mode_of old) given (record old.now { schema = s }) text None command (Ok (w.tally, new.now))) has.schema w.changed) in
-      let now = ap (λ (p : Tally × Database). p.1) (same_value (went (went done.2).2).2) in
-      let found = went done.1 in
-      let put = went (went found.2).2 in
-      let counted = went put.2 in
-      let trees : done.0.trees ≡ put.0 = ap (λ (it : Written). it.trees) (same_value counted.2) ∙ same_value counted.1 in
-      let table_at = record pending_table { tree = 5 } in
-      let step = one_step store_schema _ db put.0 (edit_of db table_at [] Chosen 0 found.0) refl put.1 in
-      let row : Row = Int (next_rowid (db 5)) ∷ Int table ∷ Blob key ∷ Blob body ∷ [] in
-      let news : (edit_of db table_at [] Chosen 0 found.0).news ≡ row ∷ [] = ap (λ all. (edit_of db table_at [] Chosen 0 all).news) found.1.1 ∙ rw (cast_null, cast_int table) refl in
-      let in_now : new.now.trees ≡ put.0 = ap (λ (d : Database). d.trees) now ∙ trees in
-      let pending : new.now.trees 5 ≡ put_row row (db 5) = ap (λ (t : Trees). t 5) in_now ∙ step.rows ∙ ap (put_all (db 5)) news in
-      let free : is_taken (db 5) row ≡ false = not_false _ (subst (λ all. are_fresh (db 5) all ≡ true) news step.fresh) in
-      let meta : new.now.trees 2 ≡ db 2 = ap (λ (t : Trees). t 2) in_now ∙ step.tables.1.0 (λ e. omega (arith, e)) in
-      let log : new.now.trees 4 ≡ db 4 = ap (λ (t : Trees). t 4) in_now ∙ step.tables.1.1.0 (λ e. omega (arith, e)) in
-      let rows : new.now.trees 0 ≡ db 0 = ap (λ (t : Trees). t 0) in_now ∙ step.tables.0 (λ e. omega (arith, e)) in
-      let none = none_at place_total place_exact row_pair IsRow (table, key) (db 5) (sym (get-from_entries place_total (map row_pair (db 5)) (table, key)) ∙ absent) in
-      let map_is = map_with place_total place_exact row_pair row (db 5) free none in (
-        record {
-          schema = ap (λ (d : Database). d.schema) now;
-          pending = subst (IsMapped place_cmp row_pair IsRow) (sym pending) (mapped_with place_total place_exact row_pair IsRow row (db 5) free none (next_rowid (db 5), table, key, body, refl) has.pending);
-          meta = subst (IsMapped (by_bytes) value_pair IsMeta) (sym meta) has.meta;
-          log = subst (IsMapped int_cmp entry_pair IsLog) (sym log) has.log;
-          rows = subst (IsMapped place_cmp row_pair IsRow) (sym rows) has.rows;
-        },
-        rw (rows, pending, meta, log, map_is) refl,
-      )
+      let step = subst (Applies store_schema _ db edit) (sym in_now) (one_step store_schema _ db put.0 edit refl put.1) in
+      let row : Row = Int (next_rowid es) ∷ Int table ∷ Blob key ∷ Blob body ∷ [] in
+      let news : edit.news ≡ row ∷ [] = ap (λ all. (edit_of db (table_of space) [] Chosen 0 all).news) found.1.1 ∙ rw (cast_null, cast_int table) refl in
+      let rows : new.now.trees (tree_of space) ≡ put_row row es = step.rows ∙ ap (put_all es) news in
+      let free : is_taken es row ≡ false = not_false _ (subst (λ all. are_fresh es all ≡ true) news step.fresh) in
+      let mapped = mapped_at space old.now has in
+      let absent_in = ap (λ (m : Bodies). get m (table, key)) (sym (placed_is space db)) ∙ absent in
+      let none = none_at place_total place_exact row_pair IsRow (table, key) es (sym (get-from_entries place_total (map row_pair es) (table, key)) ∙ absent_in) in
+      let map_is = map_with place_total place_exact row_pair row es free none in
+      let left = kept_at space old.now new.now (put_row row es) has (ap (λ (d : Database). d.schema) now) rows
+      (mapped_with place_total place_exact row_pair IsRow row es free none (next_rowid es, table, key, body, refl) mapped) step.tables in
+      (left.0, left.1 ∙ ap (λ (m : Bodies). with_placed space m (contents_in db)) (map_is ∙ ap (λ (m : Bodies). insert m (table, key) body) (sym (placed_is space db))))
 
 module _ (old new : State) (name value : List ℕ) (has : IsKept old.now) where
   pub inserts_meta : (count : ℕ) → get (contents_in old.now.trees).meta name ≡ None → Executes insert_meta_text (Words name ∷ Blob value ∷ []) old new (Ok count)
@@ -352,33 +279,21 @@ edits_by old new after shows sound kept is = record {
   contents = λ _. is;
 }
 
-pub removes_inside : (old new : State) (table : ℤ) (key : List ℕ) (r : Result ℕ Error) → IsInside old → ExecutesInside 0 remove_row_text (params_at table key) old new r
-    → OnOk r (Edits (without_row table key (contents_in old.now.trees)) old new)
-removes_inside old new table key (Err e) inside h = tt
-removes_inside old new table key (Ok count) inside h =
+pub removes_inside : (space : Space) (old new : State) (table : ℤ) (key : List ℕ) (r : Result ℕ Error) → IsInside old → ExecutesInside 0 (remove_text space) (params_at table key) old new r
+    → OnOk r (Edits (without_at space table key (contents_in old.now.trees)) old new)
+removes_inside space old new table key (Err e) inside h = tt
+removes_inside space old new table key (Ok count) inside h =
     let has = inside.kept h.1.was_open in
-    let step = removes old new table key has count h.0 in edits_by old new _ h.1 (deletes_sound remove_row_text (params_at table key) old new has 0 _ remove_is remove_plain count h.0) step.0 step.1
+    let step = removes space old new table key has count h.0 in
+    edits_by old new _ h.1 (deletes_sound (remove_text space) (params_at table key) old new has (index_of space) _ (remove_is space) (remove_plain space) count h.0) step.0 step.1
 
-pub inserts_inside : (old new : State) (table : ℤ) (key body : List ℕ) (r : Result ℕ Error) → IsInside old → (IsTrue old.is_open → get (contents_in old.now.trees).rows (table, key) ≡ None)
-    → ExecutesInside 0 insert_row_text (Int table ∷ Blob key ∷ Blob body ∷ []) old new r → OnOk r (Edits (with_row table key body (contents_in old.now.trees)) old new)
-inserts_inside old new table key body (Err e) inside absent h = tt
-inserts_inside old new table key body (Ok count) inside absent h =
+pub inserts_inside : (space : Space) (old new : State) (table : ℤ) (key body : List ℕ) (r : Result ℕ Error) → IsInside old → (IsTrue old.is_open → get (placed space (contents_in old.now.trees)) (table, key) ≡ None)
+    → ExecutesInside 0 (insert_text space) (Int table ∷ Blob key ∷ Blob body ∷ []) old new r → OnOk r (Edits (with_at space table key body (contents_in old.now.trees)) old new)
+inserts_inside space old new table key body (Err e) inside absent h = tt
+inserts_inside space old new table key body (Ok count) inside absent h =
     let has = inside.kept h.1.was_open in
-    let step = inserts old new table key body has count (absent h.1.was_open) h.0 in edits_by old new _ h.1 (inserts_sound insert_row_text (Int table ∷ Blob key ∷ Blob body ∷ []) old new has 0 _ insert_is insert_plain count h.0) step.0 step.1
-
-pub removes_pending_inside : (old new : State) (table : ℤ) (key : List ℕ) (r : Result ℕ Error) → IsInside old → ExecutesInside 0 remove_pending_text (params_at table key) old new r
-    → OnOk r (Edits (without_pending table key (contents_in old.now.trees)) old new)
-removes_pending_inside old new table key (Err e) inside h = tt
-removes_pending_inside old new table key (Ok count) inside h =
-    let has = inside.kept h.1.was_open in
-    let step = removes_pending old new table key has count h.0 in edits_by old new _ h.1 (deletes_sound remove_pending_text (params_at table key) old new has 3 _ remove_pending_is remove_pending_plain count h.0) step.0 step.1
-
-pub inserts_pending_inside : (old new : State) (table : ℤ) (key body : List ℕ) (r : Result ℕ Error) → IsInside old → (IsTrue old.is_open → get (contents_in old.now.trees).pending (table, key) ≡ None)
-    → ExecutesInside 0 insert_pending_text (Int table ∷ Blob key ∷ Blob body ∷ []) old new r → OnOk r (Edits (with_pending table key body (contents_in old.now.trees)) old new)
-inserts_pending_inside old new table key body (Err e) inside absent h = tt
-inserts_pending_inside old new table key body (Ok count) inside absent h =
-    let has = inside.kept h.1.was_open in
-    let step = inserts_pending old new table key body has count (absent h.1.was_open) h.0 in edits_by old new _ h.1 (inserts_sound insert_pending_text (Int table ∷ Blob key ∷ Blob body ∷ []) old new has 3 _ insert_pending_is insert_pending_plain count h.0) step.0 step.1
+    let step = inserts space old new table key body has count (absent h.1.was_open) h.0 in
+    edits_by old new _ h.1 (inserts_sound (insert_text space) (Int table ∷ Blob key ∷ Blob body ∷ []) old new has (index_of space) _ (insert_is space) (insert_plain space) count h.0) step.0 step.1
 
 pub removes_meta_inside : (old new : State) (name : List ℕ) (r : Result ℕ Error) → IsInside old → ExecutesInside 0 remove_meta_text (Words name ∷ []) old new r
     → OnOk r (Edits (without_named name (contents_in old.now.trees)) old new)

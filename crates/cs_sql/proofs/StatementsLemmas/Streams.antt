@@ -106,15 +106,19 @@ probed_stays start mid new probed second stays clean = stays_then start mid new 
 pub probed_quiet : (start mid new : State) → Survives start mid (λ _. ⊥) → Survives mid new (λ _. ⊥) → Survives start new (λ _. ⊥)
 probed_quiet start mid new first second = survives_then start mid new (λ _. ⊥) (λ _. ⊥) (λ _. ⊥) (λ _ db none. none) (λ _ db none. none) first second
 
-pub probed_shown : {R : Type 0} (has_read : R → R → List Row → Type 0) (sql : List ℕ) (params : Row) (start mid new : State) (begun reader : R) → (HasCleanDisk start → IsTrue start.is_open → IsReady start) → (HasCleanDisk mid → IsUnchanged start mid)
-    → Survives start mid (λ _. ⊥) → Survives mid new (λ _. ⊥) → IsPlain (understood store_schema sql) → HasCleanDisk new → (rows : List Row) × Shown sql params mid new rows × has_read begun reader rows
-    → IsTrue start.is_open × IsKept start.now × (rows : List Row) × Shown sql params start new rows × has_read begun reader rows
-probed_shown has_read sql params start mid new begun reader ready probed first second plain clean it =
-    let late : HasCleanDisk mid = omega (arith, clean, second.clean) in
-    let u = probed late in
-    let was = ready (omega (arith, late, first.clean)) u.0.was_open in
-    let plain_then = subst (λ (s : Schema). IsPlain (understood s sql)) (sym was.kept.schema) plain in
-    (u.0.was_open, was.kept, it.0, shown_since sql params start mid new it.0 plain_then u it.1, it.2)
+-- what is shown after a probe is shown of what stood before it
+module _ (sql : List ℕ) (params : Row) (start mid new : State) (ready : HasCleanDisk start → IsTrue start.is_open → IsReady start) (probed : HasCleanDisk mid → IsUnchanged start mid) (first : Survives start mid (λ _. ⊥))
+    (plain : IsPlain (understood store_schema sql)) (late : HasCleanDisk mid) where
+  pub probed_rows : (rows : List Row) → Shown sql params mid new rows → IsTrue start.is_open × IsKept start.now × Shown sql params start new rows
+  probed_rows rows shown =
+      let u = probed late in
+      let was = ready (omega (arith, late, first.clean)) u.0.was_open in
+      let plain_then = subst (λ (s : Schema). IsPlain (understood s sql)) (sym was.kept.schema) plain in
+      (u.0.was_open, was.kept, shown_since sql params start mid new rows plain_then u shown)
+
+  pub probed_shown : {R : Type 0} (has_read : R → R → List Row → Type 0) (begun reader : R) → (rows : List Row) × Shown sql params mid new rows × has_read begun reader rows
+      → IsTrue start.is_open × IsKept start.now × (rows : List Row) × Shown sql params start new rows × has_read begun reader rows
+  probed_shown has_read begun reader it = let was = probed_rows it.0 it.1 in (was.0, was.1, it.0, was.2, it.2)
 
 pub ok_shown : {E : Type 0} (P Q : Type 0) (r : Result (Unit {0}) E) → (P → Q) → OnOk r P → OnOk r Q
 ok_shown P Q (Ok x) f h = f h

@@ -9,13 +9,15 @@ use Rattle.sqlite_value.specs.Order.{bytes, value_cmp}
 use Rattle.sqlite.specs.Effect.{IsDatabase}
 use Rattle.sqlite.specs.State.{State, KeepsCommit}
 use Rattle.sqlite.specs.Tree.{Trees}
-use Rattle.cs_store.specs.Contents.{Contents, LogItem}
+use Rattle.cs_store.specs.Contents.{Bodies, Contents, LogItem}
 use Rattle.cs_store.specs.Written.{edit_body, edit_meta, items_of, with_entry, optional_entry}
 use Rattle.cs_store.specs.edits.Edits.{BodyEdit}
 use Rattle.cs_store.specs.declared.batch.MetaEdit.{MetaEdit}
 use Rattle.cs_store.specs.declared.batch.Batch.{Batch}
 use Rattle.cs_sql.specs.schema.Schemas.{store_schema}
 use Rattle.cs_sql.specs.declared.statements.reading.Entries.{Entries}
+use Rattle.cs_sql.specs.declared.statements.spaces.Space.{Space}
+use Rattle.cs_sql.specs.declared.statements.spaces.Space.TheVariants.{Rows, Pending}
 use Rattle.cs_sql.specs.statements.Tables.{AreKept, IsKept, contents_in, number_of}
 
 -- inside a transaction on the store's tables
@@ -31,31 +33,27 @@ pub record Edits (after : Contents) (old new : State) : Type 0 where
   pub stays : IsTrue old.is_open → IsTrue new.is_open
   pub contents : IsTrue new.is_open → contents_in new.now.trees ≡ after
 
--- the contents without the row at a place, and with a row there
-abbrev pub without_row : ℤ → List ℕ → Contents → Contents
-without_row table key c = record c { rows = remove c.rows (table, key) }
+-- what one of the two tables holds
+abbrev pub placed : Space → Contents → Bodies
+placed Rows c = c.rows
+placed Pending c = c.pending
 
-abbrev pub with_row : ℤ → List ℕ → List ℕ → Contents → Contents
-with_row table key body c = record c { rows = insert c.rows (table, key) body }
+abbrev pub with_placed : Space → Bodies → Contents → Contents
+with_placed Rows bodies c = record c { rows = bodies }
+with_placed Pending bodies c = record c { pending = bodies }
 
-abbrev pub with_edit : BodyEdit → Contents → Contents
-with_edit edit c = record c { rows = edit_body c.rows edit }
+-- the contents without the body at a place, and with a body there
+abbrev pub without_at : Space → ℤ → List ℕ → Contents → Contents
+without_at space table key c = with_placed space (remove (placed space c) (table, key)) c
 
-abbrev pub with_edits : List BodyEdit → Contents → Contents
-with_edits edits c = record c { rows = fold edit_body c.rows edits }
+abbrev pub with_at : Space → ℤ → List ℕ → List ℕ → Contents → Contents
+with_at space table key body c = with_placed space (insert (placed space c) (table, key) body) c
 
--- the same of pending changes
-abbrev pub without_pending : ℤ → List ℕ → Contents → Contents
-without_pending table key c = record c { pending = remove c.pending (table, key) }
+abbrev pub with_edit : Space → BodyEdit → Contents → Contents
+with_edit space edit c = with_placed space (edit_body (placed space c) edit) c
 
-abbrev pub with_pending : ℤ → List ℕ → List ℕ → Contents → Contents
-with_pending table key body c = record c { pending = insert c.pending (table, key) body }
-
-abbrev pub with_change : BodyEdit → Contents → Contents
-with_change edit c = record c { pending = edit_body c.pending edit }
-
-abbrev pub with_changes : List BodyEdit → Contents → Contents
-with_changes edits c = record c { pending = fold edit_body c.pending edits }
+abbrev pub with_edits : Space → List BodyEdit → Contents → Contents
+with_edits space edits c = with_placed space (fold edit_body (placed space c) edits) c
 
 abbrev pub without_named : List ℕ → Contents → Contents
 without_named name c = record c { meta = remove c.meta name }
@@ -74,7 +72,7 @@ abbrev pub with_log : ℤ → Option LogItem → Contents → Contents
 with_log version entry c = record c { log = with_entry version c.log entry }
 
 abbrev pub with_batch : Batch → ℤ → Contents → Contents
-with_batch batch version c = with_log version (optional_entry batch.log) (with_values batch.meta.items (with_changes batch.pending (with_edits batch.rows c)))
+with_batch batch version c = with_log version (optional_entry batch.log) (with_values batch.meta.items (with_edits Pending batch.pending (with_edits Rows batch.rows c)))
 
 -- what a stop may leave of a commit: a store's trees that hold the whole batch, whose entry stands at a version that had none
 pub record HasBatch (batch : Batch) (version : ℤ) (old : State) (trees : Trees) : Type 0 where

@@ -13,32 +13,26 @@ use Rattle.sqlite.specs.Edit.{id_in}
 use Rattle.cs_order.specs.Order.{by_bytes}
 use Rattle.cs_store.specs.Contents.{StorePlace, LogItem, Contents, place_cmp}
 use Rattle.cs_sql.specs.schema.Schemas.{store_over, store_schema}
+use Rattle.cs_sql.specs.declared.statements.spaces.Space.{Space}
+use Rattle.cs_sql.specs.declared.statements.spaces.Space.TheVariants.{Rows, Pending}
 
 -- ---- the statements
 
-abbrev pub remove_row_text : List ℕ
-remove_row_text = codes "DELETE FROM rows WHERE tab = ?1 AND key = ?2"
+abbrev pub remove_text : Space → List ℕ
+remove_text Rows = codes "DELETE FROM rows WHERE tab = ?1 AND key = ?2"
+remove_text Pending = codes "DELETE FROM pending WHERE tab = ?1 AND key = ?2"
 
-abbrev pub insert_row_text : List ℕ
-insert_row_text = codes "INSERT INTO rows VALUES (?1, ?2, ?3)"
+abbrev pub insert_text : Space → List ℕ
+insert_text Rows = codes "INSERT INTO rows VALUES (?1, ?2, ?3)"
+insert_text Pending = codes "INSERT INTO pending VALUES (?1, ?2, ?3)"
 
-abbrev pub select_row_text : List ℕ
-select_row_text = codes "SELECT body FROM rows WHERE tab = ?1 AND key = ?2"
+abbrev pub select_text : Space → List ℕ
+select_text Rows = codes "SELECT body FROM rows WHERE tab = ?1 AND key = ?2"
+select_text Pending = codes "SELECT body FROM pending WHERE tab = ?1 AND key = ?2"
 
-abbrev pub list_rows_text : List ℕ
-list_rows_text = codes "SELECT key, body FROM rows WHERE tab = ?1 ORDER BY key"
-
-abbrev pub remove_pending_text : List ℕ
-remove_pending_text = codes "DELETE FROM pending WHERE tab = ?1 AND key = ?2"
-
-abbrev pub insert_pending_text : List ℕ
-insert_pending_text = codes "INSERT INTO pending VALUES (?1, ?2, ?3)"
-
-abbrev pub select_pending_text : List ℕ
-select_pending_text = codes "SELECT body FROM pending WHERE tab = ?1 AND key = ?2"
-
-abbrev pub list_pending_text : List ℕ
-list_pending_text = codes "SELECT key, body FROM pending WHERE tab = ?1 ORDER BY key"
+abbrev pub list_text : Space → List ℕ
+list_text Rows = codes "SELECT key, body FROM rows WHERE tab = ?1 ORDER BY key"
+list_text Pending = codes "SELECT key, body FROM pending WHERE tab = ?1 ORDER BY key"
 
 abbrev pub remove_meta_text : List ℕ
 remove_meta_text = codes "DELETE FROM meta WHERE name = ?1"

@@ -3,16 +3,22 @@
 ghost use Rattle.std.specs.Prelude.{◌≡◌, ◌↔◌, ◌<◌, ◌+◌, ◌^◌, ◌++◌, ℕ, pos, List, [], ◌∷◌, map, false, IsTrue, IfOk, OnOk};
 ghost use Rattle.std.specs.FinMap.{get};
 ghost use Rattle.sqlite.specs.Held.{state};
+ghost use Rattle.sqlite.specs.Given.{IsPlain};
+ghost use Rattle.sqlite.specs.Listing.{understood};
 ghost use Rattle.sqlite.specs.Order.{Row as Values};
-ghost use Rattle.sqlite.specs.State.{HasCleanDisk, Survives};
+ghost use Rattle.sqlite.specs.State.{HasCleanDisk, Shown, Survives};
+ghost use Rattle.sqlite.specs.Values.{bound};
 ghost use Rattle.cs_store.specs.Written.{items_of, optional_bytes, optional_entry, item_of, pairs_of};
-ghost use Rattle.cs_store.specs.Contents.{IsListing, log_range, stored_tables, stored_pending};
-ghost use Rattle.cs_sql.specs.statements.Tables.{contents_in, number_of};
-ghost use Rattle.cs_sql.specs.statements.Steps.{AreTaken, IsReady, Stays, first_read, body_read, item_read, pair_read};
+ghost use Rattle.cs_store.specs.Contents.{IsListing, log_range};
+ghost use Rattle.cs_sql.specs.schema.Schemas.{store_schema};
+ghost use Rattle.cs_sql.specs.statements.Tables.{IsKept, contents_in, number_of};
+ghost use Rattle.cs_sql.specs.statements.Steps.{AreTaken, IsReady, Stays, first_read, body_read, item_read, pair_read, placed};
 
+use crate::statements::spaces::Space;
 use crate::statements::streaming::{Reader, is_place, one_more, probe, read_ready};
 use cs_store::{StoredBody, StoredEntry};
 use sqlite::{Alter, Connection, Error, Row, params};
+use sqlite_value::value::ValueRef;
 use std::alloc::Global;
 
 /// The body that an answer shows, if it has a row.
@@ -129,45 +135,39 @@ impl Reader for Entries {
     }
 }
 
-/// The body of the row at a place.
-pub fn read_row<S: Alter>(
+/// The rows that a query on the store's tables shows, between two transactions.
+fn query_ready<S: Alter>(
     conn: &mut Connection<S>,
-    table: u32,
-    key: &[u8],
-) -> Result<Option<Vec<u8>>, Error>
+    sql: &str,
+    params: &[ValueRef<'_>],
+) -> Result<Vec<Row>, Error>
     requires idle { conn.old.in_transaction ≡ false }
     requires ready { HasCleanDisk (state S.Store conn.old) → IsTrue (state S.Store conn.old).is_open → IsReady (state S.Store conn.old) }
+    requires plain { IsPlain (understood store_schema sql.now) }
     ensures idle { conn.new.in_transaction ≡ false }
-    ensures ok { HasCleanDisk (state S.Store conn.new) → IfOk result (λ body. IsTrue (state S.Store conn.old).is_open × (optional_bytes body ≡ get (contents_in (state S.Store conn.old).now.trees).rows (pos table, key.now))) }
+    ensures ok { HasCleanDisk (state S.Store conn.new) → IfOk result (λ rows. IsTrue (state S.Store conn.old).is_open × IsKept (state S.Store conn.old).now × Shown sql.now (bound params.now) (state S.Store conn.old) (state S.Store conn.new) rows.items) }
     ensures same { HasCleanDisk (state S.Store conn.new) → Stays (state S.Store conn.old) (state S.Store conn.new) }
     ensures survives { Survives (state S.Store conn.old) (state S.Store conn.new) (λ _. ⊥) }
 {
     probe(conn)?;
-    let rows = conn.query_all(
-        "SELECT body FROM rows WHERE tab = ?1 AND key = ?2",
-        params![table, key],
-    )?;
-    body_of(&rows)
+    conn.query_all(sql, params)
 }
 
-/// The pending change at a place.
-pub fn read_pending<S: Alter>(
+/// The body at a place: that of its row, or of the pending change there.
+pub fn read_at<S: Alter>(
     conn: &mut Connection<S>,
+    space: Space,
     table: u32,
     key: &[u8],
 ) -> Result<Option<Vec<u8>>, Error>
     requires idle { conn.old.in_transaction ≡ false }
     requires ready { HasCleanDisk (state S.Store conn.old) → IsTrue (state S.Store conn.old).is_open → IsReady (state S.Store conn.old) }
     ensures idle { conn.new.in_transaction ≡ false }
-    ensures ok { HasCleanDisk (state S.Store conn.new) → IfOk result (λ body. IsTrue (state S.Store conn.old).is_open × (optional_bytes body ≡ get (contents_in (state S.Store conn.old).now.trees).pending (pos table, key.now))) }
+    ensures ok { HasCleanDisk (state S.Store conn.new) → IfOk result (λ body. IsTrue (state S.Store conn.old).is_open × (optional_bytes body ≡ get (placed space (contents_in (state S.Store conn.old).now.trees)) (pos table, key.now))) }
     ensures same { HasCleanDisk (state S.Store conn.new) → Stays (state S.Store conn.old) (state S.Store conn.new) }
     ensures survives { Survives (state S.Store conn.old) (state S.Store conn.new) (λ _. ⊥) }
 {
-    probe(conn)?;
-    let rows = conn.query_all(
-        "SELECT body FROM pending WHERE tab = ?1 AND key = ?2",
-        params![table, key],
-    )?;
+    let rows = query_ready(conn, space.texts().select, params![table, key])?;
     body_of(&rows)
 }
 
@@ -180,8 +180,7 @@ pub fn read_meta<S: Alter>(conn: &mut Connection<S>, name: &str) -> Result<Optio
     ensures same { HasCleanDisk (state S.Store conn.new) → Stays (state S.Store conn.old) (state S.Store conn.new) }
     ensures survives { Survives (state S.Store conn.old) (state S.Store conn.new) (λ _. ⊥) }
 {
-    probe(conn)?;
-    let rows = conn.query_all("SELECT body FROM meta WHERE name = ?1", params![name])?;
+    let rows = query_ready(conn, "SELECT body FROM meta WHERE name = ?1", params![name])?;
     body_of(&rows)
 }
 
@@ -197,8 +196,8 @@ pub fn read_log<S: Alter>(
     ensures same { HasCleanDisk (state S.Store conn.new) → Stays (state S.Store conn.old) (state S.Store conn.new) }
     ensures survives { Survives (state S.Store conn.old) (state S.Store conn.new) (λ _. ⊥) }
 {
-    probe(conn)?;
-    let rows = conn.query_all(
+    let rows = query_ready(
+        conn,
         "SELECT origin, number, body FROM log WHERE version = ?1",
         params![version],
     )?;
@@ -231,44 +230,20 @@ pub fn list_log<S: Alter>(
     Ok(entries.entries)
 }
 
-/// The rows of a table, by ascending bytes of the key.
-pub fn list_rows<S: Alter>(
+/// The bodies of a table with their keys, by ascending bytes of the key.
+pub fn list_at<S: Alter>(
     alloc: Global,
     conn: &mut Connection<S>,
+    space: Space,
     table: u32,
 ) -> Result<Vec<StoredBody>, Error>
     requires idle { conn.old.in_transaction ≡ false }
     requires ready { HasCleanDisk (state S.Store conn.old) → IsTrue (state S.Store conn.old).is_open → IsReady (state S.Store conn.old) }
     ensures idle { conn.new.in_transaction ≡ false }
-    ensures ok { HasCleanDisk (state S.Store conn.new) → IfOk result (λ pairs. IsTrue (state S.Store conn.old).is_open × IsListing (stored_tables (contents_in (state S.Store conn.old).now.trees) table) (pairs_of pairs.items)) }
+    ensures ok { HasCleanDisk (state S.Store conn.new) → IfOk result (λ pairs. IsTrue (state S.Store conn.old).is_open × IsListing (λ key. get (placed space (contents_in (state S.Store conn.old).now.trees)) (pos table, key)) (pairs_of pairs.items)) }
     ensures same { HasCleanDisk (state S.Store conn.new) → Stays (state S.Store conn.old) (state S.Store conn.new) }
     ensures survives { Survives (state S.Store conn.old) (state S.Store conn.new) (λ _. ⊥) }
 {
-    probe(conn)?;
-    let rows = conn.query_all(
-        "SELECT key, body FROM rows WHERE tab = ?1 ORDER BY key",
-        params![table],
-    )?;
-    pairs_in(alloc, &rows)
-}
-
-/// The pending changes of a table, by ascending bytes of the key.
-pub fn list_pending<S: Alter>(
-    alloc: Global,
-    conn: &mut Connection<S>,
-    table: u32,
-) -> Result<Vec<StoredBody>, Error>
-    requires idle { conn.old.in_transaction ≡ false }
-    requires ready { HasCleanDisk (state S.Store conn.old) → IsTrue (state S.Store conn.old).is_open → IsReady (state S.Store conn.old) }
-    ensures idle { conn.new.in_transaction ≡ false }
-    ensures ok { HasCleanDisk (state S.Store conn.new) → IfOk result (λ pairs. IsTrue (state S.Store conn.old).is_open × IsListing (stored_pending (contents_in (state S.Store conn.old).now.trees) table) (pairs_of pairs.items)) }
-    ensures same { HasCleanDisk (state S.Store conn.new) → Stays (state S.Store conn.old) (state S.Store conn.new) }
-    ensures survives { Survives (state S.Store conn.old) (state S.Store conn.new) (λ _. ⊥) }
-{
-    probe(conn)?;
-    let rows = conn.query_all(
-        "SELECT key, body FROM pending WHERE tab = ?1 ORDER BY key",
-        params![table],
-    )?;
+    let rows = query_ready(conn, space.texts().list, params![table])?;
     pairs_in(alloc, &rows)
 }

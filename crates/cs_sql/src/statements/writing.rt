@@ -7,138 +7,80 @@ ghost use Rattle.sqlite.specs.State.{HasCleanDisk, KeepsCommit, IsUnchanged, Sur
 ghost use Rattle.cs_sql.specs.statements.Tables.{contents_in, number_of};
 ghost use Rattle.cs_store.specs.Written.{item_of, optional_entry};
 ghost use Rattle.cs_sql.specs.schema.Making.{IsUndone};
-ghost use Rattle.cs_sql.specs.statements.Steps.{IsInside, Edits, without_row, with_row, with_edit, with_edits, without_pending, with_pending, with_change, with_changes, without_named, with_named, with_value, with_values, with_log, with_batch, HasBatch, IsReady, IsWritten};
+ghost use Rattle.cs_sql.specs.statements.Steps.{IsInside, Edits, placed, without_at, with_at, with_edit, with_edits, without_named, with_named, with_value, with_values, with_log, with_batch, HasBatch, IsReady, IsWritten};
 
+use crate::statements::spaces::Space;
 use cs_store::edits::{LentEdits, PlaceEdit};
 use cs_store::{Batch, MetaEdit, StoredEntry};
 use sqlite::{Alter, Connection, Error, Transaction, params};
 
-/// Removes the row at a place, if there is one.
-fn remove_row<S: Alter>(tx: &mut Transaction<'_, S>, table: u32, key: &[u8]) -> Result<usize, Error>
+/// Removes the body at a place, if there is one.
+fn remove_at<S: Alter>(
+    tx: &mut Transaction<'_, S>,
+    space: Space,
+    table: u32,
+    key: &[u8],
+) -> Result<usize, Error>
     requires { HasCleanDisk (state S.Store tx.old.conn.now) → IsInside (state S.Store tx.old.conn.now) }
     ensures same_reference { tx.new.conn.ghost_name ≡ tx.old.conn.ghost_name }
-    ensures ok { HasCleanDisk (state S.Store tx.new.conn.now) → OnOk result (Edits (without_row (pos table) key.now (contents_in (state S.Store tx.old.conn.now).now.trees)) (state S.Store tx.old.conn.now) (state S.Store tx.new.conn.now)) }
+    ensures ok { HasCleanDisk (state S.Store tx.new.conn.now) → OnOk result (Edits (without_at space (pos table) key.now (contents_in (state S.Store tx.old.conn.now).now.trees)) (state S.Store tx.old.conn.now) (state S.Store tx.new.conn.now)) }
     ensures err { HasCleanDisk (state S.Store tx.new.conn.now) → OnErr result (KeepsCommit (state S.Store tx.old.conn.now) (state S.Store tx.new.conn.now)) }
     ensures survives { Survives (state S.Store tx.old.conn.now) (state S.Store tx.new.conn.now) (λ _. ⊥) }
 {
-    tx.execute(
-        "DELETE FROM rows WHERE tab = ?1 AND key = ?2",
-        params![table, key],
-    )
+    tx.execute(space.texts().remove, params![table, key])
 }
 
-/// Adds a row at a place that has none.
-fn insert_row<S: Alter>(
+/// Adds a body at a place that has none.
+fn insert_at<S: Alter>(
     tx: &mut Transaction<'_, S>,
+    space: Space,
     table: u32,
     key: &[u8],
     body: &[u8],
 ) -> Result<usize, Error>
     requires inside { HasCleanDisk (state S.Store tx.old.conn.now) → IsInside (state S.Store tx.old.conn.now) }
-    requires absent { HasCleanDisk (state S.Store tx.old.conn.now) → IsTrue (state S.Store tx.old.conn.now).is_open → get (contents_in (state S.Store tx.old.conn.now).now.trees).rows (pos table, key.now) ≡ None }
+    requires absent { HasCleanDisk (state S.Store tx.old.conn.now) → IsTrue (state S.Store tx.old.conn.now).is_open → get (placed space (contents_in (state S.Store tx.old.conn.now).now.trees)) (pos table, key.now) ≡ None }
     ensures same_reference { tx.new.conn.ghost_name ≡ tx.old.conn.ghost_name }
-    ensures ok { HasCleanDisk (state S.Store tx.new.conn.now) → OnOk result (Edits (with_row (pos table) key.now body.now (contents_in (state S.Store tx.old.conn.now).now.trees)) (state S.Store tx.old.conn.now) (state S.Store tx.new.conn.now)) }
+    ensures ok { HasCleanDisk (state S.Store tx.new.conn.now) → OnOk result (Edits (with_at space (pos table) key.now body.now (contents_in (state S.Store tx.old.conn.now).now.trees)) (state S.Store tx.old.conn.now) (state S.Store tx.new.conn.now)) }
     ensures err { HasCleanDisk (state S.Store tx.new.conn.now) → OnErr result (KeepsCommit (state S.Store tx.old.conn.now) (state S.Store tx.new.conn.now)) }
     ensures survives { Survives (state S.Store tx.old.conn.now) (state S.Store tx.new.conn.now) (λ _. ⊥) }
 {
-    tx.execute(
-        "INSERT INTO rows VALUES (?1, ?2, ?3)",
-        params![table, key, body],
-    )
+    tx.execute(space.texts().insert, params![table, key, body])
 }
 
-/// Sets the row at a place, or removes it.
-fn write_row<S: Alter>(tx: &mut Transaction<'_, S>, edit: &PlaceEdit<'_>) -> Result<(), Error>
+/// Sets the body at a place, or removes it.
+fn write_at<S: Alter>(
+    tx: &mut Transaction<'_, S>,
+    space: Space,
+    edit: &PlaceEdit<'_>,
+) -> Result<(), Error>
     requires { HasCleanDisk (state S.Store tx.old.conn.now) → IsInside (state S.Store tx.old.conn.now) }
     ensures same_reference { tx.new.conn.ghost_name ≡ tx.old.conn.ghost_name }
-    ensures ok { HasCleanDisk (state S.Store tx.new.conn.now) → OnOk result (Edits (with_edit edit.now (contents_in (state S.Store tx.old.conn.now).now.trees)) (state S.Store tx.old.conn.now) (state S.Store tx.new.conn.now)) }
+    ensures ok { HasCleanDisk (state S.Store tx.new.conn.now) → OnOk result (Edits (with_edit space edit.now (contents_in (state S.Store tx.old.conn.now).now.trees)) (state S.Store tx.old.conn.now) (state S.Store tx.new.conn.now)) }
     ensures err { HasCleanDisk (state S.Store tx.new.conn.now) → OnErr result (KeepsCommit (state S.Store tx.old.conn.now) (state S.Store tx.new.conn.now)) }
     ensures survives { Survives (state S.Store tx.old.conn.now) (state S.Store tx.new.conn.now) (λ _. ⊥) }
 {
-    remove_row(tx, edit.table(), edit.key())?;
+    remove_at(tx, space, edit.table(), edit.key())?;
     if let Some(body) = edit.body() {
-        insert_row(tx, edit.table(), edit.key(), body)?;
+        insert_at(tx, space, edit.table(), edit.key(), body)?;
     }
     Ok(())
 }
 
-/// Writes the rows of a batch, in order.
-fn write_rows<S: Alter>(tx: &mut Transaction<'_, S>, edits: &LentEdits<'_>) -> Result<(), Error>
+/// Writes the edits of one of the two tables, in order.
+fn write_edits<S: Alter>(
+    tx: &mut Transaction<'_, S>,
+    space: Space,
+    edits: &LentEdits<'_>,
+) -> Result<(), Error>
     requires { HasCleanDisk (state S.Store tx.old.conn.now) → IsInside (state S.Store tx.old.conn.now) }
     ensures same_reference { tx.new.conn.ghost_name ≡ tx.old.conn.ghost_name }
-    ensures ok { HasCleanDisk (state S.Store tx.new.conn.now) → OnOk result (Edits (with_edits edits.now (contents_in (state S.Store tx.old.conn.now).now.trees)) (state S.Store tx.old.conn.now) (state S.Store tx.new.conn.now)) }
+    ensures ok { HasCleanDisk (state S.Store tx.new.conn.now) → OnOk result (Edits (with_edits space edits.now (contents_in (state S.Store tx.old.conn.now).now.trees)) (state S.Store tx.old.conn.now) (state S.Store tx.new.conn.now)) }
     ensures err { HasCleanDisk (state S.Store tx.new.conn.now) → OnErr result (KeepsCommit (state S.Store tx.old.conn.now) (state S.Store tx.new.conn.now)) }
     ensures survives { Survives (state S.Store tx.old.conn.now) (state S.Store tx.new.conn.now) (λ _. ⊥) }
 {
     for at in 0..edits.len() {
-        write_row(tx, &edits.get(at))?;
-    }
-    Ok(())
-}
-
-/// Removes the pending change at a place, if there is one.
-fn remove_pending<S: Alter>(
-    tx: &mut Transaction<'_, S>,
-    table: u32,
-    key: &[u8],
-) -> Result<usize, Error>
-    requires { HasCleanDisk (state S.Store tx.old.conn.now) → IsInside (state S.Store tx.old.conn.now) }
-    ensures same_reference { tx.new.conn.ghost_name ≡ tx.old.conn.ghost_name }
-    ensures ok { HasCleanDisk (state S.Store tx.new.conn.now) → OnOk result (Edits (without_pending (pos table) key.now (contents_in (state S.Store tx.old.conn.now).now.trees)) (state S.Store tx.old.conn.now) (state S.Store tx.new.conn.now)) }
-    ensures err { HasCleanDisk (state S.Store tx.new.conn.now) → OnErr result (KeepsCommit (state S.Store tx.old.conn.now) (state S.Store tx.new.conn.now)) }
-    ensures survives { Survives (state S.Store tx.old.conn.now) (state S.Store tx.new.conn.now) (λ _. ⊥) }
-{
-    tx.execute(
-        "DELETE FROM pending WHERE tab = ?1 AND key = ?2",
-        params![table, key],
-    )
-}
-
-/// Adds a pending change at a place that has none.
-fn insert_pending<S: Alter>(
-    tx: &mut Transaction<'_, S>,
-    table: u32,
-    key: &[u8],
-    body: &[u8],
-) -> Result<usize, Error>
-    requires inside { HasCleanDisk (state S.Store tx.old.conn.now) → IsInside (state S.Store tx.old.conn.now) }
-    requires absent { HasCleanDisk (state S.Store tx.old.conn.now) → IsTrue (state S.Store tx.old.conn.now).is_open → get (contents_in (state S.Store tx.old.conn.now).now.trees).pending (pos table, key.now) ≡ None }
-    ensures same_reference { tx.new.conn.ghost_name ≡ tx.old.conn.ghost_name }
-    ensures ok { HasCleanDisk (state S.Store tx.new.conn.now) → OnOk result (Edits (with_pending (pos table) key.now body.now (contents_in (state S.Store tx.old.conn.now).now.trees)) (state S.Store tx.old.conn.now) (state S.Store tx.new.conn.now)) }
-    ensures err { HasCleanDisk (state S.Store tx.new.conn.now) → OnErr result (KeepsCommit (state S.Store tx.old.conn.now) (state S.Store tx.new.conn.now)) }
-    ensures survives { Survives (state S.Store tx.old.conn.now) (state S.Store tx.new.conn.now) (λ _. ⊥) }
-{
-    tx.execute(
-        "INSERT INTO pending VALUES (?1, ?2, ?3)",
-        params![table, key, body],
-    )
-}
-
-/// Sets the pending change at a place, or removes it.
-fn write_change<S: Alter>(tx: &mut Transaction<'_, S>, edit: &PlaceEdit<'_>) -> Result<(), Error>
-    requires { HasCleanDisk (state S.Store tx.old.conn.now) → IsInside (state S.Store tx.old.conn.now) }
-    ensures same_reference { tx.new.conn.ghost_name ≡ tx.old.conn.ghost_name }
-    ensures ok { HasCleanDisk (state S.Store tx.new.conn.now) → OnOk result (Edits (with_change edit.now (contents_in (state S.Store tx.old.conn.now).now.trees)) (state S.Store tx.old.conn.now) (state S.Store tx.new.conn.now)) }
-    ensures err { HasCleanDisk (state S.Store tx.new.conn.now) → OnErr result (KeepsCommit (state S.Store tx.old.conn.now) (state S.Store tx.new.conn.now)) }
-    ensures survives { Survives (state S.Store tx.old.conn.now) (state S.Store tx.new.conn.now) (λ _. ⊥) }
-{
-    remove_pending(tx, edit.table(), edit.key())?;
-    if let Some(body) = edit.body() {
-        insert_pending(tx, edit.table(), edit.key(), body)?;
-    }
-    Ok(())
-}
-
-/// Writes the pending changes of a batch, in order.
-fn write_changes<S: Alter>(tx: &mut Transaction<'_, S>, edits: &LentEdits<'_>) -> Result<(), Error>
-    requires { HasCleanDisk (state S.Store tx.old.conn.now) → IsInside (state S.Store tx.old.conn.now) }
-    ensures same_reference { tx.new.conn.ghost_name ≡ tx.old.conn.ghost_name }
-    ensures ok { HasCleanDisk (state S.Store tx.new.conn.now) → OnOk result (Edits (with_changes edits.now (contents_in (state S.Store tx.old.conn.now).now.trees)) (state S.Store tx.old.conn.now) (state S.Store tx.new.conn.now)) }
-    ensures err { HasCleanDisk (state S.Store tx.new.conn.now) → OnErr result (KeepsCommit (state S.Store tx.old.conn.now) (state S.Store tx.new.conn.now)) }
-    ensures survives { Survives (state S.Store tx.old.conn.now) (state S.Store tx.new.conn.now) (λ _. ⊥) }
-{
-    for at in 0..edits.len() {
-        write_change(tx, &edits.get(at))?;
+        write_at(tx, space, &edits.get(at))?;
     }
     Ok(())
 }
@@ -262,8 +204,8 @@ fn write_batch<S: Alter>(
     ensures survives { Survives (state S.Store tx.old.conn.now) (state S.Store tx.new.conn.now) (λ _. ⊥) }
     ensures free { HasCleanDisk (state S.Store tx.new.conn.now) → OnOk result (IsTrue (state S.Store tx.new.conn.now).is_open → IfSome batch.now.log (λ _. get (contents_in (state S.Store tx.old.conn.now).now.trees).log (pos version) ≡ None)) }
 {
-    write_rows(tx, &batch.rows.lend())?;
-    write_changes(tx, &batch.pending.lend())?;
+    write_edits(tx, Space::Rows, &batch.rows.lend())?;
+    write_edits(tx, Space::Pending, &batch.pending.lend())?;
     write_values(tx, &batch.meta)?;
     write_log(tx, version, &batch.log)
 }

@@ -1,38 +1,14 @@
-use Rattle.std.proofs.Common.{arith, ap, ◌∙◌}
-use Rattle.std.specs.FinMap.{get}
+use Rattle.std.proofs.Common.{◌∙◌}
 use Rattle.sqlite.specs.Held.{state}
-use Rattle.sqlite.specs.Effect.{Database}
-use Rattle.sqlite.specs.State.{HasCleanDisk}
-use Rattle.cs_sql.specs.statements.Tables.{contents_in, select_meta_text}
 use Rattle.cs_sql.proofs.StatementsLemmas.Meanings.{select_meta_plain}
-use Rattle.cs_sql.proofs.StatementsLemmas.Finding.{probed_kept, ready_all, query_quiet, query_failed, query_shown, selects_meta, ok_then}
+use Rattle.cs_sql.proofs.StatementsLemmas.Finding.{selects_meta, ok_then}
 use Rattle.cs_sql.proofs.statements.reading.read_meta.Goals as goal
 
-pub returns-in_err-rows-clause-same : goal.returns-in_err-rows-clause-same
-returns-in_err-rows-clause-same g c clean =
-    query_failed select_meta_text select_meta_plain _ (state g.S.Store c.args.conn.now) (state g.S.Store c.probe.new.conn) (state g.S.Store c.query_all.new.self) (ready_all (state g.S.Store c.args.conn.now) c.requires.ready) c.in_ok-probe.ensures.ok c.probe.ensures.survives c.query_all.ensures.survives
-    c.in_err-rows.field-0.0 clean (c.in_err-rows.ensures.err clean)
-
-pub returns-in_err-rows-clause-survives : goal.returns-in_err-rows-clause-survives
-returns-in_err-rows-clause-survives g c =
-    query_quiet select_meta_text select_meta_plain _ (state g.S.Store c.args.conn.now) (state g.S.Store c.probe.new.conn) (state g.S.Store c.query_all.new.self) (ready_all (state g.S.Store c.args.conn.now) c.requires.ready) c.in_ok-probe.ensures.ok c.probe.ensures.survives c.query_all.ensures.survives
+pub query_ready-requires-clause-plain : goal.query_ready-requires-clause-plain
+query_ready-requires-clause-plain g c = select_meta_plain
 
 pub returns-clause-ok : goal.returns-clause-ok
 returns-clause-ok g c clean =
-    let start = state g.S.Store c.args.conn.now in
-    let mid = state g.S.Store c.probe.new.conn in
-    let late : HasCleanDisk mid = omega (arith, c.query_all.ensures.survives.clean) in
-    let u = c.in_ok-probe.ensures.ok late in
-    let kept = probed_kept start mid c.requires.ready c.in_ok-probe.ensures.ok c.probe.ensures.survives late in
-    let found = selects_meta mid (state g.S.Store c.query_all.new.self) kept c.in_ok-rows.rows.items c.args.name.now (rw c.params-to_sql.ensures at (c.in_ok-rows.ensures.ok clean)) in
-    let there = found ∙ ap (λ (d : Database). get (contents_in d.trees).meta c.args.name.now) u.0.now_is in
-    ok_then _ _ c.body_of.result (λ body is. (u.0.was_open, is ∙ (rw c.deref.ensures.value there))) c.body_of.ensures
-
-pub returns-clause-same : goal.returns-clause-same
-returns-clause-same g c clean =
-    query_shown select_meta_text select_meta_plain _ (state g.S.Store c.args.conn.now) (state g.S.Store c.probe.new.conn) (state g.S.Store c.query_all.new.self) (ready_all (state g.S.Store c.args.conn.now) c.requires.ready) c.in_ok-probe.ensures.ok c.probe.ensures.survives c.query_all.ensures.survives
-    c.in_ok-rows.rows.items clean (c.in_ok-rows.ensures.ok clean)
-
-pub returns-clause-survives : goal.returns-clause-survives
-returns-clause-survives g c =
-    query_quiet select_meta_text select_meta_plain _ (state g.S.Store c.args.conn.now) (state g.S.Store c.probe.new.conn) (state g.S.Store c.query_all.new.self) (ready_all (state g.S.Store c.args.conn.now) c.requires.ready) c.in_ok-probe.ensures.ok c.probe.ensures.survives c.query_all.ensures.survives
+    let it = c.in_ok-rows.ensures.ok clean in
+    let found = selects_meta (state g.S.Store c.args.conn.now) (state g.S.Store c.query_ready.new.conn) it.1 c.in_ok-rows.rows.items c.args.name.now (rw c.params-to_sql.ensures at it.2) in
+    ok_then _ _ c.body_of.result (λ body is. (it.0, is ∙ (rw c.deref.ensures.value found))) c.body_of.ensures
