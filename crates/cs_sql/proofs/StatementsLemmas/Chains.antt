@@ -95,43 +95,28 @@ one_value_more a b c was edits i edit low is p q =
     ap (λ (m : Meta). record was { meta = m }) (sym (ap (fold edit_meta was.meta) all ∙ fold-append edit_meta was.meta (take i edits) (edit ∷ []))) in
     subst (λ k. Edits k a c) same (then_edits a b c (with_values (take i edits) was) (with_value edit) p q)
 
--- ---- failures
-
-pub keeps_unchanged : (a b : State) → IsUnchanged a b → KeepsCommit a b
-keeps_unchanged a b h = record { was_open = λ _. h.0.was_open; committed = λ _. h.0.committed_is }
-
-pub keeps_unrun : (a b : State) (sql : List ℕ) (params : Row) (e : Error) → IsNotRun a b sql params e → KeepsCommit a b
-unfolding IsNotRun
-keeps_unrun a b sql params e (inl h) = keeps_unchanged a b h.1
-keeps_unrun a b sql params e (inr h) = record { was_open = h.3.was_open; committed = λ o. (h.3.undone o).1 }
-
 -- ---- the whole commit
 
 -- what a database that is kept has, its trees have
 pub trees_kept : (db : Database) → IsDatabase db → IsKept db → AreKept db.trees
 trees_kept db sound kept = let same : db ≡ store_over db.trees = λ i. record { schema = kept.schema i; trees = db.trees } in record { sound = subst IsDatabase same sound; kept = subst IsKept same kept }
 
--- what a stop may leave of a transaction that began, wrote and was committed
-pub survives_commit : (was start probed last end : State) (batch : Batch) (version : ℤ) → Survives start probed (λ _. ⊥) → (HasCleanDisk probed → IsTrue probed.is_open)
-    → Survives probed last (λ _. ⊥) → (HasCleanDisk last → Edits (with_batch batch version (contents_in was.now.trees)) probed last)
+-- what a stop may leave of a transaction that wrote a batch and was committed
+pub survives_commit : (was begun last end : State) (batch : Batch) (version : ℤ) → (HasCleanDisk begun → IsTrue was.is_open × IsTrue begun.is_open)
+    → Survives begun last (λ _. ⊥) → (HasCleanDisk last → Edits (with_batch batch version (contents_in was.now.trees)) begun last)
     → (HasCleanDisk last → IsTrue last.is_open → IfSome batch.log (λ _. get (contents_in was.now.trees).log version ≡ None)) → Survives last end (λ db. db ≡ last.now.trees)
-    → (HasCleanDisk probed → IsTrue was.is_open) → Survives start end (HasBatch batch version was)
-survives_commit was start probed last end batch version p serves q writes free r opened =
-    survives_then start last end (λ _. ⊥) (λ db. db ≡ last.now.trees) (HasBatch batch version was) (λ _ db none. absurd none)
+    → Survives begun end (HasBatch batch version was)
+survives_commit was begun last end batch version opened q writes free r =
+    survives_then begun last end (λ _. ⊥) (λ db. db ≡ last.now.trees) (HasBatch batch version was) (λ _ db none. absurd none)
     (λ clean db is.
     let late : HasCleanDisk last = omega (arith, r.clean) in
-    let early : HasCleanDisk probed = omega (arith, r.clean, q.clean) in
+    let open_then = opened (omega (arith, r.clean, q.clean)) in
     let it = writes late in
-    let stays = it.stays (serves early) in
+    let stays = it.stays open_then.1 in
     record {
-      was_open = opened early;
+      was_open = open_then.0;
       kept = subst AreKept (sym is) (trees_kept last.now (it.inside.sound stays) (it.inside.kept stays));
       contents = ap contents_in is ∙ it.contents stays;
       free = free late stays;
     })
-    (quiet_then start probed last p q) r
-
--- what holds in any case holds at `Err`
-pub on_err : {T E : Type 0} {P : Type 0} (r : Result T E) → P → OnErr r P
-on_err (Ok x) p = tt
-on_err (Err e) p = p
+    q r

@@ -3,13 +3,14 @@
 ghost use Rattle.std.specs.Prelude.{◌≡◌, ℤ, pos, false, Some, None, IsTrue, OnOk, OnErr, IfSome};
 ghost use Rattle.std.specs.FinMap.{get};
 ghost use Rattle.sqlite.specs.Held.{state};
-ghost use Rattle.sqlite.specs.State.{HasCleanDisk, KeepsCommit, IsUnchanged, Survives};
+ghost use Rattle.sqlite.specs.State.{HasCleanDisk, KeepsCommit, Survives};
 ghost use Rattle.cs_sql.specs.statements.Tables.{contents_in, number_of};
 ghost use Rattle.cs_store.specs.Written.{item_of, optional_entry};
 ghost use Rattle.cs_sql.specs.schema.Making.{IsUndone};
 ghost use Rattle.cs_sql.specs.statements.Steps.{IsInside, Edits, placed, without_at, with_at, with_edit, with_edits, without_named, with_named, with_value, with_values, with_log, with_batch, HasBatch, IsReady, IsWritten};
 
 use crate::statements::spaces::Space;
+use crate::statements::streaming::probe;
 use cs_store::edits::{LentEdits, PlaceEdit};
 use cs_store::{Batch, MetaEdit, StoredEntry};
 use sqlite::{Alter, Connection, Error, Transaction, params};
@@ -210,17 +211,6 @@ fn write_batch<S: Alter>(
     write_log(tx, version, &batch.log)
 }
 
-/// Tests that the connection still serves, also where no statement follows.
-fn probe<S: Alter>(tx: &mut Transaction<'_, S>) -> Result<(), Error>
-    ensures same_reference { tx.new.conn.ghost_name ≡ tx.old.conn.ghost_name }
-    ensures ok { HasCleanDisk (state S.Store tx.new.conn.now) → OnOk result (IsUnchanged (state S.Store tx.old.conn.now) (state S.Store tx.new.conn.now)) }
-    ensures err { HasCleanDisk (state S.Store tx.new.conn.now) → OnErr result (KeepsCommit (state S.Store tx.old.conn.now) (state S.Store tx.new.conn.now)) }
-    ensures survives { Survives (state S.Store tx.old.conn.now) (state S.Store tx.new.conn.now) (λ _. ⊥) }
-{
-    let _empty = tx.prepare("")?;
-    Ok(())
-}
-
 /// Writes a batch in one transaction.
 pub fn commit_batch<S: Alter>(
     conn: &mut Connection<S>,
@@ -236,8 +226,9 @@ pub fn commit_batch<S: Alter>(
     ensures survives { Survives (state S.Store conn.old) (state S.Store conn.new) (HasBatch batch.now (pos version) (state S.Store conn.old)) }
 {
     let _ = conn.schema();
+    // The connection is tested also where no statement follows.
+    probe(conn)?;
     let mut tx = conn.transaction();
-    probe(&mut tx)?;
     write_batch(&mut tx, batch, version)?;
     tx.commit()
 }
