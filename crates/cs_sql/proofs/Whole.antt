@@ -28,7 +28,8 @@ use Rattle.cs_store.specs.declared.batch.Batch.{Batch}
 use Rattle.cs_store.specs.declared.fault.StoreFault.{StoreFault}
 use Rattle.cs_store.specs.declared.fault.StoreFault.TheVariants.{Device, Memory}
 use Rattle.cs_sql.specs.schema.Schemas.{no_schema, front_schema, store_over, store_schema}
-use Rattle.cs_sql.specs.schema.Making.{AddsPending, AreCompleted, AreLaidOut, IsCompleted, IsEmptyIn, IsLaidOut, IsUndone}
+use Rattle.cs_sql.specs.declared.parts.Part.TheVariants.{Pending}
+use Rattle.cs_sql.specs.schema.Making.{AddsTable, AreCompleted, AreLaidOut, IsCompleted, IsEmptyIn, IsLaidOut, IsUndone}
 use Rattle.cs_sql.specs.statements.Tables.{AreKept, IsKept, contents_in}
 use Rattle.cs_sql.specs.statements.Steps.{HasBatch, IsReady, IsWritten, Stays, with_batch}
 use Rattle.cs_sql.specs.declared.statements.counting.LogFound.{LogFound}
@@ -222,10 +223,10 @@ laid_survives old new at s = record {
   crash = λ clean db left. elim (s.crash clean db left) [ inl before ↦ inl before | inr laid ↦ inr (laid_opens db laid, inl ((at (omega (arith, clean, s.clean))).schema_is, laid_is db laid.1)) ];
 }
 
-completed_is : (old new : Trees) → AddsPending old new → contents_in new ≡ front_in old
+completed_is : (old new : Trees) → AddsTable Pending old new → contents_in new ≡ front_in old
 completed_is old new adds = rw (adds.others.0, adds.others.1.0, adds.others.1.1.0, adds.empty) refl
 
-completed_kept : (old new : Database) → IsFrontKept old.trees → new.schema ≡ store_schema → AddsPending old.trees new.trees → IsKept new
+completed_kept : (old new : Database) → IsFrontKept old.trees → new.schema ≡ store_schema → AddsTable Pending old.trees new.trees → IsKept new
 completed_kept old new kept schema adds = record {
   schema = schema;
   rows = rw adds.others.0 kept.rows;

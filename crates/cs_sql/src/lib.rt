@@ -9,6 +9,7 @@
 #![tactic(auto)]
 
 pub mod laws;
+mod parts;
 pub mod schema;
 pub mod statements;
 mod store;

@@ -13,43 +13,40 @@ use Rattle.sqlite.specs.Listing.{understood}
 use Rattle.sqlite.specs.State.{State, Writes, Executes, ExecutesInside}
 use Rattle.sqlite.proofs.Callers.{IsPlain, command_of, statement_of, runs_as}
 use Rattle.sqlite_tied.specs.Compute.{everything}
-use Rattle.cs_sql.specs.schema.Schemas.{no_schema, rows_schema, two_schema, front_schema, store_schema, rows_table, meta_table, log_table, pending_table}
-use Rattle.cs_sql.specs.schema.Making.{create_rows, create_meta, create_log, create_pending, IsLaid, IsAmong, Lays, Adds}
+use Rattle.cs_sql.specs.declared.parts.Part.{Part}
+use Rattle.cs_sql.specs.declared.parts.Part.TheVariants.{Rows, Pending, Meta, Log}
+use Rattle.cs_sql.specs.schema.Schemas.{rows_table, meta_table, log_table, pending_table}
+use Rattle.cs_sql.specs.schema.Making.{create_text, schema_before, schema_with, tree_with, IsAmong, Adds}
 
 -- ---- what the texts mean
 
-pub makes_rows : (command_of (understood no_schema create_rows) ≡ CreateTable) × (table_defined_by create_rows ≡ Ok rows_table)
-unfolding understood everything
-makes_rows = (refl, refl)
+abbrev pub table_of : Part → Table
+table_of Rows = rows_table
+table_of Meta = meta_table
+table_of Log = log_table
+table_of Pending = pending_table
 
-pub makes_meta : (command_of (understood rows_schema create_meta) ≡ CreateTable) × (table_defined_by create_meta ≡ Ok meta_table)
+pub makes : (part : Part) → (command_of (understood (schema_before part) (create_text part)) ≡ CreateTable) × (table_defined_by (create_text part) ≡ Ok (table_of part))
 unfolding understood everything
-makes_meta = (refl, refl)
-
-pub makes_log : (command_of (understood two_schema create_log) ≡ CreateTable) × (table_defined_by create_log ≡ Ok log_table)
-unfolding understood everything
-makes_log = (refl, refl)
-
-pub makes_pending : (command_of (understood front_schema create_pending) ≡ CreateTable) × (table_defined_by create_pending ≡ Ok pending_table)
-unfolding understood everything
-makes_pending = (refl, refl)
+makes Rows = (refl, refl)
+makes Meta = (refl, refl)
+makes Log = (refl, refl)
+makes Pending = (refl, refl)
 
 -- what a CREATE is told by, which is the whole text
-pub whole_rows : (statement_of create_rows (understood no_schema create_rows) ≡ create_rows) × IsPlain (understood no_schema create_rows)
+pub whole : (part : Part) → (statement_of (create_text part) (understood (schema_before part) (create_text part)) ≡ create_text part) × IsPlain (understood (schema_before part) (create_text part))
 unfolding understood everything
-whole_rows = (refl, (refl, refl))
+whole Rows = (refl, (refl, refl))
+whole Meta = (refl, (refl, refl))
+whole Log = (refl, (refl, refl))
+whole Pending = (refl, (refl, refl))
 
-pub whole_meta : (statement_of create_meta (understood rows_schema create_meta) ≡ create_meta) × IsPlain (understood rows_schema create_meta)
-unfolding understood everything
-whole_meta = (refl, (refl, refl))
-
-pub whole_log : (statement_of create_log (understood two_schema create_log) ≡ create_log) × IsPlain (understood two_schema create_log)
-unfolding understood everything
-whole_log = (refl, (refl, refl))
-
-pub whole_pending : (statement_of create_pending (understood front_schema create_pending) ≡ create_pending) × IsPlain (understood front_schema create_pending)
-unfolding understood everything
-whole_pending = (refl, (refl, refl))
+-- it leads to the next schema, and counts nothing
+pub leads : (part : Part) → (created (schema_before part) (table_of part) ≡ schema_with part) × (next_tree (schema_before part) ≡ tree_with part) × (lacks_sequence (created (schema_before part) (table_of part)) ≡ false)
+leads Rows = (refl, refl, refl)
+leads Meta = (refl, refl, refl)
+leads Log = (refl, refl, refl)
+leads Pending = (refl, refl, refl)
 
 -- ---- what they make
 
@@ -81,46 +78,16 @@ module _ (schema : Schema) (text : List ℕ) (table : Table) (command : command_
         w.sound,
       )
 
-pub lays_rows : (old new : State) (r : Result ℕ Error) → IsLaid no_schema old → ExecutesInside 0 create_rows [] old new r → OnOk r (Lays rows_schema old new)
-lays_rows old new (Err e) was h = tt
-lays_rows old new (Ok count) was h =
+pub adds : (part : Part) (old new : State) (r : Result ℕ Error) → IsAmong (schema_before part) old → ExecutesInside 0 (create_text part) [] old new r → OnOk r (Adds part old new)
+adds part old new (Err e) was h = tt
+adds part old new (Ok count) was h =
     let shows = h.1 in
-    let it = creates no_schema create_rows rows_table makes_rows.0 makes_rows.1 whole_rows.0 whole_rows.1 refl old new count (was.schema_is shows.was_open) h.0 in
-    record { was_open = shows.was_open; is_open = shows.is_open; sound = it.3; laid = record { writes = shows.mode; schema_is = λ _. it.0; empty = λ _. (it.1, tt) }; committed = shows.committed_is }
-
-pub lays_meta : (old new : State) (r : Result ℕ Error) → IsLaid rows_schema old → ExecutesInside 0 create_meta [] old new r → OnOk r (Lays two_schema old new)
-lays_meta old new (Err e) was h = tt
-lays_meta old new (Ok count) was h =
-    let shows = h.1 in
-    let before = was.empty shows.was_open in
-    let it = creates rows_schema create_meta meta_table makes_meta.0 makes_meta.1 whole_meta.0 whole_meta.1 refl old new count (was.schema_is shows.was_open) h.0 in
-    record { was_open = shows.was_open; is_open = shows.is_open; sound = it.3; laid = record { writes = shows.mode; schema_is = λ _. it.0; empty = λ _. (it.2.0 ∙ before.0, (it.1, tt)) }; committed = shows.committed_is }
-
-pub lays_log : (old new : State) (r : Result ℕ Error) → IsLaid two_schema old → ExecutesInside 0 create_log [] old new r → OnOk r (Lays front_schema old new)
-lays_log old new (Err e) was h = tt
-lays_log old new (Ok count) was h =
-    let shows = h.1 in
-    let before = was.empty shows.was_open in
-    let it = creates two_schema create_log log_table makes_log.0 makes_log.1 whole_log.0 whole_log.1 refl old new count (was.schema_is shows.was_open) h.0 in
-    record { was_open = shows.was_open; is_open = shows.is_open; sound = it.3; laid = record { writes = shows.mode; schema_is = λ _. it.0; empty = λ _. (it.2.0 ∙ before.0, (it.2.1.0 ∙ before.1.0, (it.1, tt))) }; committed = shows.committed_is }
-
-pub lays_pending : (old new : State) (r : Result ℕ Error) → IsAmong front_schema old → ExecutesInside 0 create_pending [] old new r → OnOk r (Adds old new)
-lays_pending old new (Err e) was h = tt
-lays_pending old new (Ok count) was h =
-    let shows = h.1 in
-    let it = creates front_schema create_pending pending_table makes_pending.0 makes_pending.1 whole_pending.0 whole_pending.1 refl old new count (was.schema_is shows.was_open) h.0 in
-    record { was_open = shows.was_open; is_open = shows.is_open; sound = it.3; writes = shows.mode; schema_is = it.0; added = record { others = it.2; empty = it.1 }; committed = shows.committed_is }
-
--- ---- one after another
-
-pub all_laid : (a b c : State) → Lays front_schema a b → Adds b c → Lays store_schema a c
-all_laid a b c front adds =
-    let before = front.laid.empty front.is_open in
-    let same = adds.added.others in
+    let it = creates (schema_before part) (create_text part) (table_of part) (makes part).0 (makes part).1 (whole part).0 (whole part).1 (leads part).2 old new count (was.schema_is shows.was_open) h.0 in
     record {
-      was_open = front.was_open;
-      is_open = adds.is_open;
-      sound = adds.sound;
-      laid = record { writes = adds.writes; schema_is = λ _. adds.schema_is; empty = λ _. (same.0 ∙ before.0, (same.1.0 ∙ before.1.0, (same.1.1.0 ∙ before.1.1.0, (adds.added.empty, tt)))) };
-      committed = adds.committed ∙ front.committed;
+      was_open = shows.was_open;
+      is_open = shows.is_open;
+      sound = it.3;
+      among = record { writes = shows.mode; schema_is = λ _. it.0 ∙ (leads part).0 };
+      added = record { others = it.2; empty = subst (λ (n : ℕ). new.now.trees n ≡ []) (leads part).1 it.1 };
+      committed = shows.committed_is;
     }

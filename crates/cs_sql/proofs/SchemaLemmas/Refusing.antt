@@ -33,10 +33,11 @@ use Rattle.sqlite.specs.State.{State, ExecutesIn, ExecutesInside, EndsScope, Esc
 use Rattle.sqlite.proofs.Callers.{IsPlain, command_of, statement_of}
 use Rattle.sqlite_tied.specs.Compute.{everything}
 use Rattle.cs_sql.specs.Causes.{IsCaused, IsOne}
-use Rattle.cs_sql.specs.schema.Schemas.{no_schema, rows_schema, two_schema, front_schema, rows_table, meta_table, log_table, pending_table}
-use Rattle.cs_sql.specs.schema.Making.{create_rows, create_meta, create_log, create_pending, IsLaid, IsAmong}
+use Rattle.cs_sql.specs.declared.parts.Part.{Part}
+use Rattle.cs_sql.specs.declared.parts.Part.TheVariants.{Rows, Pending, Meta, Log}
+use Rattle.cs_sql.specs.schema.Making.{create_text, schema_before, IsAmong}
 use Rattle.cs_sql.proofs.CauseLemmas.{fails_caused, unrun_caused}
-use Rattle.cs_sql.proofs.SchemaLemmas.Laying.{makes_rows, makes_meta, makes_log, makes_pending, same_value, whole_rows, whole_meta, whole_log, whole_pending}
+use Rattle.cs_sql.proofs.SchemaLemmas.Laying.{leads, makes, same_value, table_of, whole}
 
 -- what a schema and the texts of a table have to be like
 pub record CanMake (schema : Schema) (text : List ℕ) (table : Table) : Type 0 where
@@ -148,26 +149,17 @@ module _ (schema : Schema) (text : List ℕ) (table : Table) (defined : table_de
 
 -- ---- the four texts
 
-one_rows : IsOne 0 create_rows (understood no_schema create_rows)
+one : (part : Part) → IsOne 0 (create_text part) (understood (schema_before part) (create_text part))
 unfolding understood everything
-one_rows = (refl, refl)
+one Rows = (refl, refl)
+one Meta = (refl, refl)
+one Log = (refl, refl)
+one Pending = (refl, refl)
 
-one_meta : IsOne 0 create_meta (understood rows_schema create_meta)
-unfolding understood everything
-one_meta = (refl, refl)
-
-one_log : IsOne 0 create_log (understood two_schema create_log)
-unfolding understood everything
-one_log = (refl, refl)
-
-one_pending : IsOne 0 create_pending (understood front_schema create_pending)
-unfolding understood everything
-one_pending = (refl, refl)
-
-can_rows : CanMake no_schema create_rows rows_table
+can : (part : Part) → CanMake (schema_before part) (create_text part) (table_of part)
 unfolding digits fits_kind is_free_name begins value_cmp names.same_name sound.same_name lib.Utf8.encode lib.Ieee.is_nan lib.Ieee.lt
-can_rows = record {
-  utf8 = (create_rows, (refl, refl));
+can Rows = record {
+  utf8 = (create_text Rows, (refl, refl));
   named = (codes "rows", (refl, refl));
   free = refl;
   apart = (refl, tt);
@@ -183,11 +175,8 @@ can_rows = record {
   size_is = refl;
   short = omega arith;
 }
-
-can_meta : CanMake rows_schema create_meta meta_table
-unfolding digits fits_kind is_free_name begins value_cmp names.same_name sound.same_name lib.Utf8.encode lib.Ieee.is_nan lib.Ieee.lt
-can_meta = record {
-  utf8 = (create_meta, (refl, refl));
+can Meta = record {
+  utf8 = (create_text Meta, (refl, refl));
   named = (codes "meta", (refl, refl));
   free = refl;
   apart = (refl, tt);
@@ -203,11 +192,8 @@ can_meta = record {
   size_is = refl;
   short = omega arith;
 }
-
-can_log : CanMake two_schema create_log log_table
-unfolding digits fits_kind is_free_name begins value_cmp names.same_name sound.same_name lib.Utf8.encode lib.Ieee.is_nan lib.Ieee.lt
-can_log = record {
-  utf8 = (create_log, (refl, refl));
+can Log = record {
+  utf8 = (create_text Log, (refl, refl));
   named = (codes "log", (refl, refl));
   free = refl;
   apart = tt;
@@ -223,11 +209,8 @@ can_log = record {
   size_is = refl;
   short = omega arith;
 }
-
-can_pending : CanMake front_schema create_pending pending_table
-unfolding digits fits_kind is_free_name begins value_cmp names.same_name sound.same_name lib.Utf8.encode lib.Ieee.is_nan lib.Ieee.lt
-can_pending = record {
-  utf8 = (create_pending, (refl, refl));
+can Pending = record {
+  utf8 = (create_text Pending, (refl, refl));
   named = (codes "pending", (refl, refl));
   free = refl;
   apart = (refl, tt);
@@ -244,14 +227,5 @@ can_pending = record {
   short = omega arith;
 }
 
-pub rows_caused : (old new : State) (r : Result ℕ Error) → IsLaid no_schema old → ExecutesInside 0 create_rows [] old new r → IfErr r (IsCaused old new)
-rows_caused old new r was = create_caused no_schema create_rows rows_table makes_rows.1 can_rows makes_rows.0 whole_rows.0 whole_rows.1 one_rows refl old new r was.schema_is
-
-pub meta_caused : (old new : State) (r : Result ℕ Error) → IsLaid rows_schema old → ExecutesInside 0 create_meta [] old new r → IfErr r (IsCaused old new)
-meta_caused old new r was = create_caused rows_schema create_meta meta_table makes_meta.1 can_meta makes_meta.0 whole_meta.0 whole_meta.1 one_meta refl old new r was.schema_is
-
-pub log_caused : (old new : State) (r : Result ℕ Error) → IsLaid two_schema old → ExecutesInside 0 create_log [] old new r → IfErr r (IsCaused old new)
-log_caused old new r was = create_caused two_schema create_log log_table makes_log.1 can_log makes_log.0 whole_log.0 whole_log.1 one_log refl old new r was.schema_is
-
-pub pending_caused : (old new : State) (r : Result ℕ Error) → IsAmong front_schema old → ExecutesInside 0 create_pending [] old new r → IfErr r (IsCaused old new)
-pending_caused old new r was = create_caused front_schema create_pending pending_table makes_pending.1 can_pending makes_pending.0 whole_pending.0 whole_pending.1 one_pending refl old new r was.schema_is
+pub making_caused : (part : Part) (old new : State) (r : Result ℕ Error) → IsAmong (schema_before part) old → ExecutesInside 0 (create_text part) [] old new r → IfErr r (IsCaused old new)
+making_caused part old new r was = create_caused (schema_before part) (create_text part) (table_of part) (makes part).1 (can part) (makes part).0 (whole part).0 (whole part).1 (one part) (leads part).2 old new r was.schema_is

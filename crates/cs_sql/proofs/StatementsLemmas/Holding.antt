@@ -27,8 +27,8 @@ use Rattle.cs_sql.specs.schema.Schemas.{store_schema}
 use Rattle.cs_sql.specs.statements.Tables.{IsRow, IsMeta, IsLog, IsMapped, IsKept, contents_in, row_pair, value_pair, entry_pair, all_rows_text, all_pending_text, all_names_text, all_bodies_text}
 use Rattle.cs_sql.specs.statements.Steps.{IsReady, Stays}
 use Rattle.cs_sql.specs.statements.Checked.{HasOwn, ShowsOwn, all_text}
-use Rattle.cs_sql.specs.declared.statements.checking.Part.{Part}
-use Rattle.cs_sql.specs.declared.statements.checking.Part.TheVariants as part
+use Rattle.cs_sql.specs.declared.parts.Part.{Part}
+use Rattle.cs_sql.specs.declared.parts.Part.TheVariants as part
 use Rattle.cs_sql.proofs.StatementsLemmas.Meanings.{one_column, place_terms, all_rows_is, all_rows_plain, all_pending_is, all_pending_plain, all_names_is, all_names_plain, all_bodies_is, all_bodies_plain}
 use Rattle.cs_sql.proofs.StatementsLemmas.Answers.{place_total, place_exact, shown, answer_is, passes_on}
 use Rattle.cs_sql.proofs.StatementsLemmas.Orders.{all_permutation, all_map, all_unmap, apart_map, find_had, tied}

@@ -8,8 +8,8 @@ use Rattle.sqlite_value.specs.Order.{bytes}
 use Rattle.cs_store.specs.Contents.{Contents, LogItem, StorePlace}
 use Rattle.cs_store.specs.Whole.{AtTable, IsName, StoresBody, StoresChange, StoresRow}
 use Rattle.cs_sql.specs.statements.Tables.{all_bodies_text, all_names_text, all_pending_text, all_rows_text}
-use Rattle.cs_sql.specs.declared.statements.checking.Part.{Part}
-use Rattle.cs_sql.specs.declared.statements.checking.Part.TheVariants.{Rows, Pending, Meta, Log}
+use Rattle.cs_sql.specs.declared.parts.Part.{Part}
+use Rattle.cs_sql.specs.declared.parts.Part.TheVariants.{Rows, Pending, Meta, Log}
 
 -- a place and a body, as a row of an answer shows them
 abbrev pub place_read : Row → StorePlace

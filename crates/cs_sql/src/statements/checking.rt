@@ -6,44 +6,18 @@ ghost use Rattle.sqlite.specs.State.{HasCleanDisk, Survives};
 ghost use Rattle.sqlite_value.specs.Order.{bytes};
 ghost use Rattle.sqlite_value.specs.Value.{owned};
 ghost use Rattle.cs_store.specs.Whole.{IsWhole};
-ghost use Rattle.cs_sql.specs.declared.statements.checking.Part.TheVariants.{Rows, Pending, Meta, Log};
+ghost use Rattle.cs_sql.specs.declared.parts.Part.TheVariants.{Rows, Pending, Meta, Log};
 ghost use Rattle.cs_sql.specs.statements.Tables.{contents_in};
 ghost use Rattle.cs_sql.specs.statements.Steps.{IsReady, Stays};
-ghost use Rattle.cs_sql.specs.statements.Checked.{HasOwn, ShowsOwn, all_text};
+ghost use Rattle.cs_sql.specs.statements.Checked.{HasOwn, ShowsOwn};
 
+use crate::parts::Part;
 use crate::statements::streaming::{Reader, read_ready};
 use cs_store::{is_body, is_change, is_name, is_row};
 use cs_value::Catalog;
 use sqlite::{Alter, Connection, Error, Row};
 use sqlite_value::value::ValueRef;
 use std::alloc::Global;
-
-/// One of the tables of a store.
-#[derive(Clone, Copy)]
-pub enum Part {
-    /// Rows.
-    Rows,
-    /// Pending changes.
-    Pending,
-    /// Values by name.
-    Meta,
-    /// Entries of the log.
-    Log,
-}
-
-impl Part {
-    /// The query that shows all that the table holds.
-    fn query(self) -> &'static str
-        ensures { result.now ≡ all_text self }
-    {
-        match self {
-            Part::Rows => "SELECT tab, key, body FROM rows",
-            Part::Pending => "SELECT tab, key, body FROM pending",
-            Part::Meta => "SELECT name FROM meta",
-            Part::Log => "SELECT body FROM log",
-        }
-    }
-}
 
 /// The number of a table of the catalog, if it is one.
 fn table_number(catalog: &Catalog, number: i64) -> Option<u32>

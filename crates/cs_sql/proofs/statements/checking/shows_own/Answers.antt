@@ -1,6 +1,6 @@
 use Rattle.std.proofs.Common.{IfOk, IsTrue, sym, subst}
 use Rattle.std.specs.Prelude.{◌↔◌}
-use Rattle.cs_sql.specs.declared.statements.checking.Part.{Part}
+use Rattle.cs_sql.specs.declared.parts.Part.{Part}
 use Rattle.cs_sql.specs.statements.Checked.{ShowsOwn}
 use Rattle.cs_sql.proofs.statements.checking.shows_own.Goals as goal
 
