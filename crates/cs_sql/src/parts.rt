@@ -2,7 +2,7 @@
 
 ghost use Rattle.std.specs.Prelude.{◌≡◌};
 ghost use Rattle.cs_sql.specs.schema.Making.{create_text};
-ghost use Rattle.cs_sql.specs.statements.Checked.{all_text};
+ghost use Rattle.cs_sql.specs.statements.Tables.{all_text};
 
 /// One of the tables of a store.
 #[derive(Clone, Copy)]

@@ -20,13 +20,13 @@ use Rattle.cs_sql.specs.schema.Making.{create_text, schema_before, schema_with, 
 
 -- ---- what the texts mean
 
-abbrev pub table_of : Part → Table
-table_of Rows = rows_table
-table_of Meta = meta_table
-table_of Log = log_table
-table_of Pending = pending_table
+abbrev pub made_table : Part → Table
+made_table Rows = rows_table
+made_table Meta = meta_table
+made_table Log = log_table
+made_table Pending = pending_table
 
-pub makes : (part : Part) → (command_of (understood (schema_before part) (create_text part)) ≡ CreateTable) × (table_defined_by (create_text part) ≡ Ok (table_of part))
+pub makes : (part : Part) → (command_of (understood (schema_before part) (create_text part)) ≡ CreateTable) × (table_defined_by (create_text part) ≡ Ok (made_table part))
 unfolding understood everything
 makes Rows = (refl, refl)
 makes Meta = (refl, refl)
@@ -42,7 +42,7 @@ whole Log = (refl, (refl, refl))
 whole Pending = (refl, (refl, refl))
 
 -- it leads to the next schema, and counts nothing
-pub leads : (part : Part) → (created (schema_before part) (table_of part) ≡ schema_with part) × (next_tree (schema_before part) ≡ tree_with part) × (lacks_sequence (created (schema_before part) (table_of part)) ≡ false)
+pub leads : (part : Part) → (created (schema_before part) (made_table part) ≡ schema_with part) × (next_tree (schema_before part) ≡ tree_with part) × (lacks_sequence (created (schema_before part) (made_table part)) ≡ false)
 leads Rows = (refl, refl, refl)
 leads Meta = (refl, refl, refl)
 leads Log = (refl, refl, refl)
@@ -82,7 +82,7 @@ pub adds : (part : Part) (old new : State) (r : Result ℕ Error) → IsAmong (s
 adds part old new (Err e) was h = tt
 adds part old new (Ok count) was h =
     let shows = h.1 in
-    let it = creates (schema_before part) (create_text part) (table_of part) (makes part).0 (makes part).1 (whole part).0 (whole part).1 (leads part).2 old new count (was.schema_is shows.was_open) h.0 in
+    let it = creates (schema_before part) (create_text part) (made_table part) (makes part).0 (makes part).1 (whole part).0 (whole part).1 (leads part).2 old new count (was.schema_is shows.was_open) h.0 in
     record {
       was_open = shows.was_open;
       is_open = shows.is_open;

@@ -37,7 +37,7 @@ use Rattle.cs_sql.specs.declared.parts.Part.{Part}
 use Rattle.cs_sql.specs.declared.parts.Part.TheVariants.{Rows, Pending, Meta, Log}
 use Rattle.cs_sql.specs.schema.Making.{create_text, schema_before, IsAmong}
 use Rattle.cs_sql.proofs.CauseLemmas.{fails_caused, unrun_caused}
-use Rattle.cs_sql.proofs.SchemaLemmas.Laying.{leads, makes, same_value, table_of, whole}
+use Rattle.cs_sql.proofs.SchemaLemmas.Laying.{leads, made_table, makes, same_value, whole}
 
 -- what a schema and the texts of a table have to be like
 pub record CanMake (schema : Schema) (text : List ℕ) (table : Table) : Type 0 where
@@ -156,7 +156,7 @@ one Meta = (refl, refl)
 one Log = (refl, refl)
 one Pending = (refl, refl)
 
-can : (part : Part) → CanMake (schema_before part) (create_text part) (table_of part)
+can : (part : Part) → CanMake (schema_before part) (create_text part) (made_table part)
 unfolding digits fits_kind is_free_name begins value_cmp names.same_name sound.same_name lib.Utf8.encode lib.Ieee.is_nan lib.Ieee.lt
 can Rows = record {
   utf8 = (create_text Rows, (refl, refl));
@@ -228,4 +228,4 @@ can Pending = record {
 }
 
 pub making_caused : (part : Part) (old new : State) (r : Result ℕ Error) → IsAmong (schema_before part) old → ExecutesInside 0 (create_text part) [] old new r → IfErr r (IsCaused old new)
-making_caused part old new r was = create_caused (schema_before part) (create_text part) (table_of part) (makes part).1 (can part) (makes part).0 (whole part).0 (whole part).1 (one part) (leads part).2 old new r was.schema_is
+making_caused part old new r was = create_caused (schema_before part) (create_text part) (made_table part) (makes part).1 (can part) (makes part).0 (whole part).0 (whole part).1 (one part) (leads part).2 old new r was.schema_is

@@ -1,6 +1,6 @@
 -- What the tables of a file that was found hold.
 use Rattle.std.specs.Prelude.{is_some, zero, suc, ◌↔◌, IsSome, MatchOption}
-use Rattle.std.proofs.Common.{◌≡◌, ◌≢◌, inl, inr, ℕ, ◌+◌, ◌^◌, ◌<◌, ◌≤◌, ℤ, pos, List, [], ◌∷◌, length, drop, ◌++◌, length-append, map, codes, Bool, true, false, not, ◌&&◌, ◌||◌, cond, Option, Some, None, IfSome, IsTrue, refl, sym, ap, subst, ◌∙◌, arith, get_or}
+use Rattle.std.proofs.Common.{◌≡◌, ◌≢◌, inl, inr, ℕ, ◌+◌, ◌^◌, ◌<◌, ◌≤◌, ℤ, pos, List, [], ◌∷◌, length, drop, ◌++◌, length-append, map, Bool, true, false, not, ◌&&◌, ◌||◌, cond, Option, Some, None, IfSome, IsTrue, refl, sym, ap, subst, ◌∙◌, arith, get_or}
 use Rattle.std.specs.declared.cmp.Ordering.{Ordering}
 use Rattle.std.specs.declared.cmp.Ordering.TheVariants.{Less, Equal, Greater}
 use Rattle.std.specs.Ordering.{is_eq, is_lt, is_ne, eq_by_cmp, int_cmp, ordering_then}
@@ -21,10 +21,8 @@ use Rattle.sqlite.specs.State.{State, IsUnchanged}
 use Rattle.sqlite.specs.Program.{overlay}
 use Rattle.sqlite.specs.Query.{Output, output_cmp}
 use Rattle.sqlite.specs.Schema.{Schema}
-use Rattle.sqlite.specs.Listing.{understood, reads_listing}
-use Rattle.sqlite.specs.Command.TheVariants.{Select}
 use Rattle.sqlite.specs.Ops.{binary, is_true, is_null, from_truth}
-use Rattle.sqlite.proofs.Callers.{IsPlain, command_of, reads_as}
+use Rattle.sqlite.proofs.Callers.{reads_as}
 use Rattle.sqlite_rules.specs.Lists.{Has}
 use Rattle.sqlite_rules.specs.Edit.{id_in}
 use Rattle.sqlite_rules.proofs.ListLemmas.{all_has, all_from, some_from}
@@ -38,15 +36,18 @@ use Rattle.sqlite_value.specs.Order.{value_cmp}
 use Rattle.sqlite_value.proofs.OrderLemmas.{value_cmp-Int, value_cmp_total}
 use Rattle.cs_order.specs.Order.{by_bytes}
 use Rattle.cs_store.specs.Contents.{Contents, Log, LogItem, place_cmp}
+use Rattle.cs_sql.specs.declared.parts.Part.{Part}
+use Rattle.cs_sql.specs.declared.parts.Part.TheVariants as part
+use Rattle.cs_sql.specs.schema.Making.{tree_with}
 use Rattle.cs_sql.specs.schema.Judged.{IsForeign}
 use Rattle.cs_sql.specs.schema.Schemas.{no_schema, front_schema, store_schema, rows_table, meta_table, log_table}
-use Rattle.cs_sql.specs.statements.Tables.{rows_ids_text, meta_ids_text, log_ids_text, pending_ids_text, IsRow, IsMeta, IsLog, IsMapped, IsKept, Apart, same_id, same_key, row_pair, value_pair, entry_pair, contents_in}
+use Rattle.cs_sql.specs.statements.Tables.{ids_text, IsRow, IsMeta, IsLog, IsMapped, IsKept, Apart, same_id, same_key, row_pair, value_pair, entry_pair, contents_in}
 use Rattle.cs_sql.specs.declared.statements.counting.Ids.{Ids}
 use Rattle.cs_sql.specs.declared.statements.counting.LogFound.{LogFound}
 use Rattle.cs_sql.specs.declared.statements.looking.Found.TheVariants.{Foreign}
 use Rattle.cs_sql.specs.statements.Steps.{Serves}
 use Rattle.cs_sql.specs.statements.Found.{AreApart, AreCountable, AreEntries, AreNumbered, AreSeen, HasEachVersion, HasFront, IsCounted, IsFound, IsFrontKept, IsFrontOf, IsLogOf, IsStoreOf, IsUntouched, Rise, ShowsIds, ShowsLast, ShowsNumber, front_in, is_version}
-use Rattle.cs_sql.proofs.StatementsLemmas.Meanings.{ids_in, one_column, rising_by, rows_ids_front, meta_ids_front, log_ids_front, rows_ids_store, meta_ids_store, log_ids_store, pending_ids_store}
+use Rattle.cs_sql.proofs.StatementsLemmas.Meanings.{AsksIds, HasPart, ids_are, ids_in, one_column, rising_by}
 use Rattle.cs_sql.proofs.StatementsLemmas.Answers.{place_total, shown, given, answer_is, ordered_is, passes_on, passes_is, name_passes}
 use Rattle.cs_sql.proofs.StatementsLemmas.Apart.{find_none}
 use Rattle.cs_sql.proofs.StatementsLemmas.Orders.{Level, apart_map, apart_permutation, apart_unmap, all_permutation, all_unmap, pos_less, rise_front, rise_level, rise_pair, rise_push}
@@ -117,13 +118,12 @@ all_shown : (es : List Row) → AllByRecursion ShowsNumber es → AllByRecursion
 all_shown [] all = tt
 all_shown (e ∷ es) all = (all.0, all_shown es all.1)
 
--- a text that asks for the rowids of the table at the tree
-abbrev pub AsksIds : Schema → List ℕ → ℕ → List (List ℕ) → Type 0
-AsksIds schema sql tree names = (command_of (understood schema sql) ≡ Select (record { lets = []; body = ids_in tree }) names) × (reads_listing schema sql ≡ false) × IsPlain (understood schema sql)
+module _ (schema : Schema) (p : Part) (asks : AsksIds schema p) (old new : State) (has : old.now.schema ≡ schema) (ids : Ids) (it : ShowsIds (ids_text p) old new ids) where
+  abbrev tree : ℕ
+  tree = tree_with p
 
-module _ (schema : Schema) (sql : List ℕ) (tree : ℕ) (names : List (List ℕ)) (asks : AsksIds schema sql tree names) (old new : State) (has : old.now.schema ≡ schema) (ids : Ids) (it : ShowsIds sql old new ids) where
   ids_same : IsPermutation (map (shown (one_column 0) []) (filter (passes_on [] []) (overlay old.now.trees [] tree))) it.rows
-  ids_same = let a = reads_as sql [] old new schema has _ asks.0 asks.2 asks.1 it.rows it.shown in answer_is tree [] (one_column 0) (rising_by 0) old.now.trees [] it.rows (a.answer Null)
+  ids_same = let a = reads_as (ids_text p) [] old new schema has _ asks.0 asks.2 asks.1 it.rows it.shown in answer_is tree [] (one_column 0) (rising_by 0) old.now.trees [] it.rows (a.answer Null)
 
   ids_apart : IsTrue ids.rise → AreApart (overlay old.now.trees [] tree)
   ids_apart rise = let are = it.are.rise.0 rise in apart_from (overlay old.now.trees [] tree) it.rows ids_same are.0 are.1
@@ -133,7 +133,7 @@ module _ (schema : Schema) (sql : List ℕ) (tree : ℕ) (names : List (List ℕ
       let es = overlay old.now.trees [] tree in
       let moved : IsPermutation (map (shown (one_column 0) []) es) it.rows = subst (λ xs. IsPermutation (map (shown (one_column 0) []) xs) it.rows) (filter_none [] es) ids_same in
       let whole : AllByRecursion ShowsNumber it.rows = all_permutation ShowsNumber (map (shown (one_column 0) []) es) it.rows moved (all_shown es are.whole) in
-      let a = reads_as sql [] old new schema has _ asks.0 asks.2 asks.1 it.rows it.shown in
+      let a = reads_as (ids_text p) [] old new schema has _ asks.0 asks.2 asks.1 it.rows it.shown in
       let o = ordered_is tree [] (one_column 0) (rising_by 0) old.now.trees [] it.rows (a.answer Null) in
       it.are.rise.1 (whole, rise_shown tree es it.rows o.ordered o.same o.sorted o.shown_are ids_same are.apart)
 
@@ -350,22 +350,6 @@ entries_from es rows ids found same apart are rise entries whole fits =
 
 -- ---- the four queries
 
-front_ids : (schema : Schema) → HasFront schema → AsksIds schema rows_ids_text 0 (codes "rowid" ∷ []) × AsksIds schema meta_ids_text 2 (codes "rowid" ∷ []) × AsksIds schema log_ids_text 4 (codes "version" ∷ [])
-front_ids schema (inl is) = subst (λ (s : Schema). AsksIds s rows_ids_text 0 (codes "rowid" ∷ []) × AsksIds s meta_ids_text 2 (codes "rowid" ∷ []) × AsksIds s log_ids_text 4 (codes "version" ∷ [])) (sym is) (rows_ids_front, meta_ids_front, log_ids_front)
-front_ids schema (inr is) = subst (λ (s : Schema). AsksIds s rows_ids_text 0 (codes "rowid" ∷ []) × AsksIds s meta_ids_text 2 (codes "rowid" ∷ []) × AsksIds s log_ids_text 4 (codes "version" ∷ [])) (sym is) (rows_ids_store, meta_ids_store, log_ids_store)
-
-pub rows_plain : (schema : Schema) → HasFront schema → IsPlain (understood schema rows_ids_text)
-rows_plain schema front = (front_ids schema front).0.2
-
-pub meta_plain : (schema : Schema) → HasFront schema → IsPlain (understood schema meta_ids_text)
-meta_plain schema front = (front_ids schema front).1.2
-
-pub log_plain : (schema : Schema) → HasFront schema → IsPlain (understood schema log_ids_text)
-log_plain schema front = (front_ids schema front).2.2
-
-pub pending_plain : (schema : Schema) → schema ≡ store_schema → IsPlain (understood schema pending_ids_text)
-pending_plain schema is = subst (λ (s : Schema). IsPlain (understood s pending_ids_text)) (sym is) pending_ids_store.2
-
 pub match_then : {X : Type 0} (N M : Type 0) (P Q : X → Type 0) (o : Option X) → (N → M) → ((x : X) → P x → Q x) → MatchOption o N P → MatchOption o M Q
 match_then N M P Q None n f h = n h
 match_then N M P Q (Some x) n f h = f x h
@@ -375,37 +359,37 @@ none_left None N P missing h = h
 none_left (Some x) N P missing h = absurd (missing x refl)
 
 pub front_counted : (s0 s1 s2 s3 : State) (rows meta log : Ids) (found : LogFound) → HasFront s0.now.schema → s1.now ≡ s0.now → s2.now ≡ s1.now
-    → ShowsIds rows_ids_text s0 s1 rows → ShowsIds meta_ids_text s1 s2 meta → ShowsIds log_ids_text s2 s3 log
+    → ShowsIds (ids_text part.Rows) s0 s1 rows → ShowsIds (ids_text part.Meta) s1 s2 meta → ShowsIds (ids_text part.Log) s2 s3 log
     → rows.rise ≡ true → meta.rise ≡ true → log.rise ≡ true → found.entries ≡ log.count → found.is_whole ≡ log.are_numbered → log.count < 2 ^ 32 → IsCounted s0.now.trees found
 front_counted s0 s1 s2 s3 rows meta log found front e1 e2 r m l sr sm sl entries whole fits =
     let f2 : s2.now ≡ s0.now = e2 ∙ e1 in
-    let asks = front_ids s0.now.schema front in
+    let asks = λ (p : Part) (front : HasPart s0.now.schema p). ids_are p s0.now.schema front in
     let has = λ (s : State) (e : s.now ≡ s0.now). ap (λ (d : Database). d.schema) e in
-    let same = ids_same s0.now.schema log_ids_text 4 _ asks.2 s2 s3 (has s2 f2) log l in
-    let apart = ids_apart s0.now.schema log_ids_text 4 _ asks.2 s2 s3 (has s2 f2) log l sl in
+    let same = ids_same s0.now.schema part.Log (asks part.Log front) s2 s3 (has s2 f2) log l in
+    let apart = ids_apart s0.now.schema part.Log (asks part.Log front) s2 s3 (has s2 f2) log l sl in
     record {
-      rows = ids_apart s0.now.schema rows_ids_text 0 _ asks.0 s0 s1 refl rows r sr;
-      meta = subst (λ (t : Database). AreApart (t.trees 2)) e1 (ids_apart s0.now.schema meta_ids_text 2 _ asks.1 s1 s2 (has s1 e1) meta m sm);
+      rows = ids_apart s0.now.schema part.Rows (asks part.Rows front) s0 s1 refl rows r sr;
+      meta = subst (λ (t : Database). AreApart (t.trees 2)) e1 (ids_apart s0.now.schema part.Meta (asks part.Meta front) s1 s2 (has s1 e1) meta m sm);
       log = subst (λ (t : Database). AreEntries (t.trees 4) found) f2 (entries_from (overlay s2.now.trees [] 4) l.rows log found same apart l.are sl entries whole fits);
     }
 
 -- rowids that are apart rise as they are read, and the count of the log is its rows'
 pub front_rises : (s0 s1 s2 s3 : State) (rows meta log : Ids) → HasFront s0.now.schema → s1.now ≡ s0.now → s2.now ≡ s1.now
-    → ShowsIds rows_ids_text s0 s1 rows → ShowsIds meta_ids_text s1 s2 meta → ShowsIds log_ids_text s2 s3 log
+    → ShowsIds (ids_text part.Rows) s0 s1 rows → ShowsIds (ids_text part.Meta) s1 s2 meta → ShowsIds (ids_text part.Log) s2 s3 log
     → AreCountable s0.now.trees → (rows.rise ≡ true) × (meta.rise ≡ true) × (log.rise ≡ true) × (log.count < 2 ^ 32)
 front_rises s0 s1 s2 s3 rows meta log front e1 e2 r m l can =
     let f2 : s2.now ≡ s0.now = e2 ∙ e1 in
-    let asks = front_ids s0.now.schema front in
+    let asks = λ (p : Part) (front : HasPart s0.now.schema p). ids_are p s0.now.schema front in
     let has = λ (s : State) (e : s.now ≡ s0.now). ap (λ (d : Database). d.schema) e in (
-      ids_rise s0.now.schema rows_ids_text 0 _ asks.0 s0 s1 refl rows r can.rows,
-      ids_rise s0.now.schema meta_ids_text 2 _ asks.1 s1 s2 (has s1 e1) meta m (subst (λ (d : Database). AreApart (d.trees 2)) (sym e1) can.meta),
-      ids_rise s0.now.schema log_ids_text 4 _ asks.2 s2 s3 (has s2 f2) log l (subst (λ (d : Database). AreApart (d.trees 4)) (sym f2) can.log),
-      subst (λ (n : ℕ). n < 2 ^ 32) (sym (ids_count s0.now.schema log_ids_text 4 _ asks.2 s2 s3 (has s2 f2) log l ∙ ap (λ (d : Database). length (d.trees 4)) f2)) can.fits,
+      ids_rise s0.now.schema part.Rows (asks part.Rows front) s0 s1 refl rows r can.rows,
+      ids_rise s0.now.schema part.Meta (asks part.Meta front) s1 s2 (has s1 e1) meta m (subst (λ (d : Database). AreApart (d.trees 2)) (sym e1) can.meta),
+      ids_rise s0.now.schema part.Log (asks part.Log front) s2 s3 (has s2 f2) log l (subst (λ (d : Database). AreApart (d.trees 4)) (sym f2) can.log),
+      subst (λ (n : ℕ). n < 2 ^ 32) (sym (ids_count s0.now.schema part.Log (asks part.Log front) s2 s3 (has s2 f2) log l ∙ ap (λ (d : Database). length (d.trees 4)) f2)) can.fits,
     )
 
-pub pending_apart : (s0 s1 : State) (ids : Ids) → s0.now.schema ≡ store_schema → ShowsIds pending_ids_text s0 s1 ids → IsTrue ids.rise ↔ AreApart (s0.now.trees 5)
+pub pending_apart : (s0 s1 : State) (ids : Ids) → s0.now.schema ≡ store_schema → ShowsIds (ids_text part.Pending) s0 s1 ids → IsTrue ids.rise ↔ AreApart (s0.now.trees 5)
 pending_apart s0 s1 ids is shown =
-    (λ rise. ids_apart store_schema pending_ids_text 5 _ pending_ids_store s0 s1 is ids shown rise, λ are. ids_rise store_schema pending_ids_text 5 _ pending_ids_store s0 s1 is ids shown are)
+    (λ rise. ids_apart store_schema part.Pending (ids_are part.Pending store_schema refl) s0 s1 is ids shown rise, λ are. ids_rise store_schema part.Pending (ids_are part.Pending store_schema refl) s0 s1 is ids shown are)
 
 -- ---- what the columns of a row are
 

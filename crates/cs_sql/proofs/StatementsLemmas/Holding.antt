@@ -16,20 +16,19 @@ use Rattle.sqlite.specs.Order.{Row}
 use Rattle.sqlite.specs.Effect.{Database}
 use Rattle.sqlite.specs.State.{State, Shown}
 use Rattle.sqlite.specs.Term.{Term}
-use Rattle.sqlite.specs.Listing.{understood}
-use Rattle.sqlite.proofs.Callers.{IsPlain, reads_as}
+use Rattle.sqlite.proofs.Callers.{reads_as}
 use Rattle.sqlite_rules.specs.Lists.{Has}
 use Rattle.sqlite_rules.proofs.ListLemmas.{all_has, all_from}
 use Rattle.sqlite_value.specs.declared.value.Value.TheVariants.{Null}
 use Rattle.cs_value.specs.declared.catalog.TableDef.{TableDef}
 use Rattle.cs_store.specs.Whole.{AtTable, IsName, IsWhole, StoresBody, StoresChange, StoresRow}
 use Rattle.cs_sql.specs.schema.Schemas.{store_schema}
-use Rattle.cs_sql.specs.statements.Tables.{IsRow, IsMeta, IsLog, IsMapped, IsKept, contents_in, row_pair, value_pair, entry_pair, all_rows_text, all_pending_text, all_names_text, all_bodies_text}
+use Rattle.cs_sql.specs.statements.Tables.{IsRow, IsMeta, IsLog, IsMapped, IsKept, contents_in, row_pair, value_pair, entry_pair, all_text}
 use Rattle.cs_sql.specs.statements.Steps.{IsReady, Stays}
-use Rattle.cs_sql.specs.statements.Checked.{HasOwn, ShowsOwn, all_text}
+use Rattle.cs_sql.specs.statements.Checked.{HasOwn, ShowsOwn}
 use Rattle.cs_sql.specs.declared.parts.Part.{Part}
 use Rattle.cs_sql.specs.declared.parts.Part.TheVariants as part
-use Rattle.cs_sql.proofs.StatementsLemmas.Meanings.{one_column, place_terms, all_rows_is, all_rows_plain, all_pending_is, all_pending_plain, all_names_is, all_names_plain, all_bodies_is, all_bodies_plain}
+use Rattle.cs_sql.proofs.StatementsLemmas.Meanings.{one_column, place_terms, all_is, all_plain}
 use Rattle.cs_sql.proofs.StatementsLemmas.Answers.{place_total, place_exact, shown, answer_is, passes_on}
 use Rattle.cs_sql.proofs.StatementsLemmas.Orders.{all_permutation, all_map, all_unmap, apart_map, find_had, tied}
 
@@ -73,35 +72,29 @@ module _ {K X : Type 0} {R : K → K → Ordering} (total : IsTotalOrder R) (exa
 pub through : {A B C : Type 0} → A ↔ B → B ↔ C → A ↔ C
 through p q = (λ a. q.0 (p.0 a), λ c. p.1 (q.1 c))
 
-rows_hold : (tables : List TableDef) (old new : State) (rows : List Row) → IsKept old.now → Shown all_rows_text [] old new rows → AllByRecursion (ShowsOwn part.Rows tables) rows ↔ HasOwn part.Rows tables (contents_in old.now.trees)
+rows_hold : (tables : List TableDef) (old new : State) (rows : List Row) → IsKept old.now → Shown (all_text part.Rows) [] old new rows → AllByRecursion (ShowsOwn part.Rows tables) rows ↔ HasOwn part.Rows tables (contents_in old.now.trees)
 rows_hold tables old new rows has h =
-    let a = reads_as all_rows_text [] old new store_schema has.schema _ all_rows_is.0 all_rows_plain all_rows_is.1 rows h in
+    let a = reads_as (all_text part.Rows) [] old new store_schema has.schema _ (all_is part.Rows).0 (all_plain part.Rows) (all_is part.Rows).1 rows h in
     holds place_total place_exact row_pair IsRow place_terms (λ place body. AtTable StoresRow tables place body) (ShowsOwn part.Rows tables) (λ r it. rw it.4 (λ q. q, λ q. q)) (old.now.trees 0) rows has.rows
     (answer_is 0 [] place_terms [] old.now.trees [] rows (a.answer Null))
 
-pending_hold : (tables : List TableDef) (old new : State) (rows : List Row) → IsKept old.now → Shown all_pending_text [] old new rows → AllByRecursion (ShowsOwn part.Pending tables) rows ↔ HasOwn part.Pending tables (contents_in old.now.trees)
+pending_hold : (tables : List TableDef) (old new : State) (rows : List Row) → IsKept old.now → Shown (all_text part.Pending) [] old new rows → AllByRecursion (ShowsOwn part.Pending tables) rows ↔ HasOwn part.Pending tables (contents_in old.now.trees)
 pending_hold tables old new rows has h =
-    let a = reads_as all_pending_text [] old new store_schema has.schema _ all_pending_is.0 all_pending_plain all_pending_is.1 rows h in
+    let a = reads_as (all_text part.Pending) [] old new store_schema has.schema _ (all_is part.Pending).0 (all_plain part.Pending) (all_is part.Pending).1 rows h in
     holds place_total place_exact row_pair IsRow place_terms (λ place body. AtTable StoresChange tables place body) (ShowsOwn part.Pending tables) (λ r it. rw it.4 (λ q. q, λ q. q)) (old.now.trees 5) rows has.pending
     (answer_is 5 [] place_terms [] old.now.trees [] rows (a.answer Null))
 
-names_hold : (tables : List TableDef) (old new : State) (rows : List Row) → IsKept old.now → Shown all_names_text [] old new rows → AllByRecursion (ShowsOwn part.Meta tables) rows ↔ HasOwn part.Meta tables (contents_in old.now.trees)
+names_hold : (tables : List TableDef) (old new : State) (rows : List Row) → IsKept old.now → Shown (all_text part.Meta) [] old new rows → AllByRecursion (ShowsOwn part.Meta tables) rows ↔ HasOwn part.Meta tables (contents_in old.now.trees)
 names_hold tables old new rows has h =
-    let a = reads_as all_names_text [] old new store_schema has.schema _ all_names_is.0 all_names_plain all_names_is.1 rows h in
+    let a = reads_as (all_text part.Meta) [] old new store_schema has.schema _ (all_is part.Meta).0 (all_plain part.Meta) (all_is part.Meta).1 rows h in
     holds nat_list_cmp_total exact_bytes value_pair IsMeta (one_column 1) (λ name value. IsName name) (ShowsOwn part.Meta tables) (λ r it. rw it.3 (λ q. q, λ q. q)) (old.now.trees 2) rows has.meta
     (answer_is 2 [] (one_column 1) [] old.now.trees [] rows (a.answer Null))
 
-bodies_hold : (tables : List TableDef) (old new : State) (rows : List Row) → IsKept old.now → Shown all_bodies_text [] old new rows → AllByRecursion (ShowsOwn part.Log tables) rows ↔ HasOwn part.Log tables (contents_in old.now.trees)
+bodies_hold : (tables : List TableDef) (old new : State) (rows : List Row) → IsKept old.now → Shown (all_text part.Log) [] old new rows → AllByRecursion (ShowsOwn part.Log tables) rows ↔ HasOwn part.Log tables (contents_in old.now.trees)
 bodies_hold tables old new rows has h =
-    let a = reads_as all_bodies_text [] old new store_schema has.schema _ all_bodies_is.0 all_bodies_plain all_bodies_is.1 rows h in
+    let a = reads_as (all_text part.Log) [] old new store_schema has.schema _ (all_is part.Log).0 (all_plain part.Log) (all_is part.Log).1 rows h in
     holds int_cmp_total exact_signed entry_pair IsLog (one_column 4) (λ version item. StoresBody tables item.body) (ShowsOwn part.Log tables) (λ r it. rw it.4 (λ q. q, λ q. q)) (old.now.trees 4) rows has.log
     (answer_is 4 [] (one_column 4) [] old.now.trees [] rows (a.answer Null))
-
-pub part_plain : (p : Part) → IsPlain (understood store_schema (all_text p))
-part_plain part.Rows = all_rows_plain
-part_plain part.Pending = all_pending_plain
-part_plain part.Meta = all_names_plain
-part_plain part.Log = all_bodies_plain
 
 part_holds : (p : Part) (tables : List TableDef) (old new : State) (rows : List Row) → IsKept old.now → Shown (all_text p) [] old new rows → AllByRecursion (ShowsOwn p tables) rows ↔ HasOwn p tables (contents_in old.now.trees)
 part_holds part.Rows tables old new rows has h = rows_hold tables old new rows has h

@@ -1,5 +1,5 @@
 -- What the texts of the statements mean.
-use Rattle.std.proofs.Common.{◌≡◌, ℕ, pos, negsuc, false, None, List, [], ◌∷◌, codes, refl}
+use Rattle.std.proofs.Common.{◌≡◌, inl, inr, ℕ, pos, negsuc, false, None, List, [], ◌∷◌, codes, refl, sym, subst}
 use Rattle.sqlite.specs.Command.TheVariants.{Delete, Insert, Select}
 use Rattle.sqlite.specs.Collation.TheVariants.{Binary}
 use Rattle.sqlite.specs.Query.{Query, inner, end}
@@ -12,11 +12,16 @@ use Rattle.sqlite_value.specs.declared.keys.Key.{Key}
 use Rattle.sqlite_sql.specs.declared.ops.BinaryOp.TheVariants.{Compare}
 use Rattle.sqlite_sql.specs.declared.ops.CompareOp.TheVariants.{Eq, Ge, Lt}
 use Rattle.sqlite_tied.specs.Compute.{everything}
+use Rattle.sqlite.specs.Schema.{Schema}
 use Rattle.sqlite.specs.Table.{Table}
+use Rattle.cs_sql.specs.declared.parts.Part.{Part}
+use Rattle.cs_sql.specs.declared.parts.Part.TheVariants as part
 use Rattle.cs_sql.specs.declared.statements.spaces.Space.{Space}
 use Rattle.cs_sql.specs.declared.statements.spaces.Space.TheVariants.{Rows, Pending}
 use Rattle.cs_sql.specs.schema.Schemas.{front_schema, placed_at, store_schema}
-use Rattle.cs_sql.specs.statements.Tables.{remove_text, insert_text, select_text, list_text, rows_ids_text, meta_ids_text, log_ids_text, pending_ids_text, all_rows_text, all_pending_text, all_names_text, all_bodies_text, remove_meta_text, insert_meta_text, select_meta_text, insert_log_text, select_log_text, list_log_text}
+use Rattle.cs_sql.specs.schema.Making.{tree_with}
+use Rattle.cs_sql.specs.statements.Found.{HasFront}
+use Rattle.cs_sql.specs.statements.Tables.{remove_text, insert_text, select_text, list_text, ids_text, all_text, remove_meta_text, insert_meta_text, select_meta_text, insert_log_text, select_log_text, list_log_text}
 
 -- the terms of `tab = ?1 AND key = ?2`
 abbrev pub at_place : List Term
@@ -203,33 +208,44 @@ unfolding understood everything
 list_plain Rows = (refl, refl)
 list_plain Pending = (refl, refl)
 
-pub rows_ids_front : (command_of (understood front_schema rows_ids_text) ≡ Select (record { lets = []; body = ids_in 0 }) (codes "rowid" ∷ [])) × (reads_listing front_schema rows_ids_text ≡ false) × IsPlain (understood front_schema rows_ids_text)
-unfolding understood everything
-rows_ids_front = (refl, refl, (refl, refl))
+-- the column that a query for rowids shows
+abbrev pub id_name : Part → List ℕ
+id_name part.Rows = codes "rowid"
+id_name part.Pending = codes "rowid"
+id_name part.Meta = codes "rowid"
+id_name part.Log = codes "version"
 
-pub meta_ids_front : (command_of (understood front_schema meta_ids_text) ≡ Select (record { lets = []; body = ids_in 2 }) (codes "rowid" ∷ [])) × (reads_listing front_schema meta_ids_text ≡ false) × IsPlain (understood front_schema meta_ids_text)
-unfolding understood everything
-meta_ids_front = (refl, refl, (refl, refl))
+-- the text asks for the rowids of the table, in this schema
+abbrev pub AsksIds : Schema → Part → Type 0
+AsksIds schema p = (command_of (understood schema (ids_text p)) ≡ Select (record { lets = []; body = ids_in (tree_with p) }) (id_name p ∷ [])) × (reads_listing schema (ids_text p) ≡ false) × IsPlain (understood schema (ids_text p))
 
-pub log_ids_front : (command_of (understood front_schema log_ids_text) ≡ Select (record { lets = []; body = ids_in 4 }) (codes "version" ∷ [])) × (reads_listing front_schema log_ids_text ≡ false) × IsPlain (understood front_schema log_ids_text)
-unfolding understood everything
-log_ids_front = (refl, refl, (refl, refl))
+-- a schema of a store's that has the table
+abbrev pub HasPart : Schema → Part → Type 0
+HasPart schema part.Rows = HasFront schema
+HasPart schema part.Pending = schema ≡ store_schema
+HasPart schema part.Meta = HasFront schema
+HasPart schema part.Log = HasFront schema
 
-pub rows_ids_store : (command_of (understood store_schema rows_ids_text) ≡ Select (record { lets = []; body = ids_in 0 }) (codes "rowid" ∷ [])) × (reads_listing store_schema rows_ids_text ≡ false) × IsPlain (understood store_schema rows_ids_text)
+ids_store : (p : Part) → AsksIds store_schema p
 unfolding understood everything
-rows_ids_store = (refl, refl, (refl, refl))
+ids_store part.Rows = (refl, refl, (refl, refl))
+ids_store part.Pending = (refl, refl, (refl, refl))
+ids_store part.Meta = (refl, refl, (refl, refl))
+ids_store part.Log = (refl, refl, (refl, refl))
 
-pub meta_ids_store : (command_of (understood store_schema meta_ids_text) ≡ Select (record { lets = []; body = ids_in 2 }) (codes "rowid" ∷ [])) × (reads_listing store_schema meta_ids_text ≡ false) × IsPlain (understood store_schema meta_ids_text)
+ids_front : AsksIds front_schema part.Rows × AsksIds front_schema part.Meta × AsksIds front_schema part.Log
 unfolding understood everything
-meta_ids_store = (refl, refl, (refl, refl))
+ids_front = ((refl, refl, (refl, refl)), (refl, refl, (refl, refl)), (refl, refl, (refl, refl)))
 
-pub log_ids_store : (command_of (understood store_schema log_ids_text) ≡ Select (record { lets = []; body = ids_in 4 }) (codes "version" ∷ [])) × (reads_listing store_schema log_ids_text ≡ false) × IsPlain (understood store_schema log_ids_text)
-unfolding understood everything
-log_ids_store = (refl, refl, (refl, refl))
+in_front : (p : Part) → AsksIds front_schema p → (schema : Schema) → HasFront schema → AsksIds schema p
+in_front p asks schema (inl is) = subst (λ (s : Schema). AsksIds s p) (sym is) asks
+in_front p asks schema (inr is) = subst (λ (s : Schema). AsksIds s p) (sym is) (ids_store p)
 
-pub pending_ids_store : (command_of (understood store_schema pending_ids_text) ≡ Select (record { lets = []; body = ids_in 5 }) (codes "rowid" ∷ [])) × (reads_listing store_schema pending_ids_text ≡ false) × IsPlain (understood store_schema pending_ids_text)
-unfolding understood everything
-pending_ids_store = (refl, refl, (refl, refl))
+pub ids_are : (p : Part) (schema : Schema) → HasPart schema p → AsksIds schema p
+ids_are part.Rows schema has = in_front part.Rows ids_front.0 schema has
+ids_are part.Pending schema has = subst (λ (s : Schema). AsksIds s part.Pending) (sym has) (ids_store part.Pending)
+ids_are part.Meta schema has = in_front part.Meta ids_front.1 schema has
+ids_are part.Log schema has = in_front part.Log ids_front.2 schema has
 
 -- a place and a body
 abbrev pub place_terms : List Term
@@ -239,34 +255,28 @@ place_terms = col 1 1 ∷ col 1 2 ∷ col 1 3 ∷ []
 abbrev pub all_in : ℕ → List Term → Query
 all_in tree terms = query_on tree [] terms []
 
-pub all_rows_is : (command_of (understood store_schema all_rows_text) ≡ Select (record { lets = []; body = all_in 0 place_terms }) (codes "tab" ∷ codes "key" ∷ codes "body" ∷ [])) × (reads_listing store_schema all_rows_text ≡ false)
-unfolding understood everything
-all_rows_is = (refl, refl)
+abbrev pub terms_of : Part → List Term
+terms_of part.Rows = place_terms
+terms_of part.Pending = place_terms
+terms_of part.Meta = one_column 1
+terms_of part.Log = one_column 4
 
-pub all_rows_plain : IsPlain (understood store_schema all_rows_text)
-unfolding understood everything
-all_rows_plain = (refl, refl)
+abbrev pub columns_of : Part → List (List ℕ)
+columns_of part.Rows = codes "tab" ∷ codes "key" ∷ codes "body" ∷ []
+columns_of part.Pending = codes "tab" ∷ codes "key" ∷ codes "body" ∷ []
+columns_of part.Meta = codes "name" ∷ []
+columns_of part.Log = codes "body" ∷ []
 
-pub all_pending_is : (command_of (understood store_schema all_pending_text) ≡ Select (record { lets = []; body = all_in 5 place_terms }) (codes "tab" ∷ codes "key" ∷ codes "body" ∷ [])) × (reads_listing store_schema all_pending_text ≡ false)
+pub all_is : (p : Part) → (command_of (understood store_schema (all_text p)) ≡ Select (record { lets = []; body = all_in (tree_with p) (terms_of p) }) (columns_of p)) × (reads_listing store_schema (all_text p) ≡ false)
 unfolding understood everything
-all_pending_is = (refl, refl)
+all_is part.Rows = (refl, refl)
+all_is part.Pending = (refl, refl)
+all_is part.Meta = (refl, refl)
+all_is part.Log = (refl, refl)
 
-pub all_pending_plain : IsPlain (understood store_schema all_pending_text)
+pub all_plain : (p : Part) → IsPlain (understood store_schema (all_text p))
 unfolding understood everything
-all_pending_plain = (refl, refl)
-
-pub all_names_is : (command_of (understood store_schema all_names_text) ≡ Select (record { lets = []; body = all_in 2 (one_column 1) }) (codes "name" ∷ [])) × (reads_listing store_schema all_names_text ≡ false)
-unfolding understood everything
-all_names_is = (refl, refl)
-
-pub all_names_plain : IsPlain (understood store_schema all_names_text)
-unfolding understood everything
-all_names_plain = (refl, refl)
-
-pub all_bodies_is : (command_of (understood store_schema all_bodies_text) ≡ Select (record { lets = []; body = all_in 4 (one_column 4) }) (codes "body" ∷ [])) × (reads_listing store_schema all_bodies_text ≡ false)
-unfolding understood everything
-all_bodies_is = (refl, refl)
-
-pub all_bodies_plain : IsPlain (understood store_schema all_bodies_text)
-unfolding understood everything
-all_bodies_plain = (refl, refl)
+all_plain part.Rows = (refl, refl)
+all_plain part.Pending = (refl, refl)
+all_plain part.Meta = (refl, refl)
+all_plain part.Log = (refl, refl)

@@ -7,7 +7,6 @@ use Rattle.sqlite.specs.Edit.{id_in}
 use Rattle.sqlite_value.specs.Order.{bytes}
 use Rattle.cs_store.specs.Contents.{Contents, LogItem, StorePlace}
 use Rattle.cs_store.specs.Whole.{AtTable, IsName, StoresBody, StoresChange, StoresRow}
-use Rattle.cs_sql.specs.statements.Tables.{all_bodies_text, all_names_text, all_pending_text, all_rows_text}
 use Rattle.cs_sql.specs.declared.parts.Part.{Part}
 use Rattle.cs_sql.specs.declared.parts.Part.TheVariants.{Rows, Pending, Meta, Log}
 
@@ -29,10 +28,3 @@ HasOwn Rows tables contents = (place : StorePlace) (body : List ℕ) → get con
 HasOwn Pending tables contents = (place : StorePlace) (body : List ℕ) → get contents.pending place ≡ Some body → AtTable StoresChange tables place body
 HasOwn Meta tables contents = (name value : List ℕ) → get contents.meta name ≡ Some value → IsName name
 HasOwn Log tables contents = (version : ℤ) (item : LogItem) → get contents.log version ≡ Some item → StoresBody tables item.body
-
--- the query that shows all that the table holds
-abbrev pub all_text : Part → List ℕ
-all_text Rows = all_rows_text
-all_text Pending = all_pending_text
-all_text Meta = all_names_text
-all_text Log = all_bodies_text

@@ -13,6 +13,8 @@ use Rattle.sqlite.specs.Edit.{id_in}
 use Rattle.cs_order.specs.Order.{by_bytes}
 use Rattle.cs_store.specs.Contents.{StorePlace, LogItem, Contents, place_cmp}
 use Rattle.cs_sql.specs.schema.Schemas.{store_over, store_schema}
+use Rattle.cs_sql.specs.declared.parts.Part.{Part}
+use Rattle.cs_sql.specs.declared.parts.Part.TheVariants as part
 use Rattle.cs_sql.specs.declared.statements.spaces.Space.{Space}
 use Rattle.cs_sql.specs.declared.statements.spaces.Space.TheVariants.{Rows, Pending}
 
@@ -52,29 +54,19 @@ select_log_text = codes "SELECT origin, number, body FROM log WHERE version = ?1
 abbrev pub list_log_text : List ℕ
 list_log_text = codes "SELECT origin, number, body, version FROM log WHERE version >= ?1 AND version < ?2 ORDER BY version"
 
-abbrev pub all_rows_text : List ℕ
-all_rows_text = codes "SELECT tab, key, body FROM rows"
+-- the query that shows all that a table holds
+abbrev pub all_text : Part → List ℕ
+all_text part.Rows = codes "SELECT tab, key, body FROM rows"
+all_text part.Pending = codes "SELECT tab, key, body FROM pending"
+all_text part.Meta = codes "SELECT name FROM meta"
+all_text part.Log = codes "SELECT body FROM log"
 
-abbrev pub all_pending_text : List ℕ
-all_pending_text = codes "SELECT tab, key, body FROM pending"
-
-abbrev pub all_names_text : List ℕ
-all_names_text = codes "SELECT name FROM meta"
-
-abbrev pub all_bodies_text : List ℕ
-all_bodies_text = codes "SELECT body FROM log"
-
-abbrev pub rows_ids_text : List ℕ
-rows_ids_text = codes "SELECT rowid FROM rows ORDER BY rowid"
-
-abbrev pub meta_ids_text : List ℕ
-meta_ids_text = codes "SELECT rowid FROM meta ORDER BY rowid"
-
-abbrev pub log_ids_text : List ℕ
-log_ids_text = codes "SELECT rowid FROM log ORDER BY rowid"
-
-abbrev pub pending_ids_text : List ℕ
-pending_ids_text = codes "SELECT rowid FROM pending ORDER BY rowid"
+-- the query that shows its rowids
+abbrev pub ids_text : Part → List ℕ
+ids_text part.Rows = codes "SELECT rowid FROM rows ORDER BY rowid"
+ids_text part.Pending = codes "SELECT rowid FROM pending ORDER BY rowid"
+ids_text part.Meta = codes "SELECT rowid FROM meta ORDER BY rowid"
+ids_text part.Log = codes "SELECT rowid FROM log ORDER BY rowid"
 
 -- ---- what they hold
 

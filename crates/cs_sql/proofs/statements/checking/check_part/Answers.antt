@@ -3,11 +3,12 @@ use Rattle.sqlite.specs.Listing.{understood}
 use Rattle.sqlite.proofs.Callers.{IsPlain}
 use Rattle.sqlite.specs.Held.{state}
 use Rattle.cs_sql.specs.schema.Schemas.{store_schema}
-use Rattle.cs_sql.proofs.StatementsLemmas.Holding.{judged, part_plain}
+use Rattle.cs_sql.proofs.StatementsLemmas.Holding.{judged}
+use Rattle.cs_sql.proofs.StatementsLemmas.Meanings.{all_plain}
 use Rattle.cs_sql.proofs.statements.checking.check_part.Goals as goal
 
 pub read_ready-requires-clause-plain : goal.read_ready-requires-clause-plain
-read_ready-requires-clause-plain g c = subst (λ (s : List ℕ). IsPlain (understood store_schema s)) (sym c.query.ensures) (part_plain c.args.part)
+read_ready-requires-clause-plain g c = subst (λ (s : List ℕ). IsPlain (understood store_schema s)) (sym c.query.ensures) (all_plain c.args.part)
 
 pub read_ready-requires-clause-starts : goal.read_ready-requires-clause-starts
 read_ready-requires-clause-starts g c = (refl, refl, λ t. (λ _. tt, λ _. t))

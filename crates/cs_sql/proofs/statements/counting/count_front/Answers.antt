@@ -4,26 +4,28 @@ use Rattle.sqlite.specs.Effect.{Database}
 use Rattle.sqlite.specs.Held.{state}
 use Rattle.sqlite.specs.State.{HasCleanDisk}
 use Rattle.cs_sql.specs.statements.Found.{HasFront}
-use Rattle.cs_sql.proofs.StatementsLemmas.Adopting.{rows_plain, meta_plain, log_plain, front_counted, front_rises, match_then}
+use Rattle.cs_sql.proofs.StatementsLemmas.Adopting.{front_counted, front_rises, match_then}
 use Rattle.cs_sql.proofs.CauseLemmas.{caused_unchanged}
-use Rattle.cs_sql.proofs.StatementsLemmas.Granting.{rows_granted, meta_granted, log_granted}
+use Rattle.cs_sql.proofs.StatementsLemmas.Granting.{ids_granted}
+use Rattle.cs_sql.proofs.StatementsLemmas.Meanings.{ids_are}
+use Rattle.cs_sql.specs.declared.parts.Part.TheVariants as part
 use Rattle.cs_sql.proofs.statements.counting.count_front.Goals as goal
 use Rattle.cs_sql.proofs.statements.counting.count_front.Goals.{else-rows-via-then-rows+then-meta+else-log, else-rows-via-then-rows+else-meta, else-rows-via-else-rows}
 
 pub read_ids-requires-clause-plain : goal.read_ids-requires-clause-plain
-read_ids-requires-clause-plain g c clean = rows_plain (state g.S.Store c.args.conn.now).now.schema (c.requires.front clean)
+read_ids-requires-clause-plain g c clean = (ids_are part.Rows (state g.S.Store c.args.conn.now).now.schema (c.requires.front clean)).2
 
 pub read_ids-requires-2-clause-plain : goal.read_ids-requires-2-clause-plain
 read_ids-requires-2-clause-plain g c clean =
     let front = c.requires.front (omega (arith, clean, c.read_ids.ensures.survives.clean)) in
-    meta_plain (state g.S.Store c.read_ids.new.conn).now.schema (subst (λ (d : Database). HasFront d.schema) (sym (c.in_ok-rows.ensures.ok clean).0.now_is) front)
+    (ids_are part.Meta (state g.S.Store c.read_ids.new.conn).now.schema (subst (λ (d : Database). HasFront d.schema) (sym (c.in_ok-rows.ensures.ok clean).0.now_is) front)).2
 
 pub read_ids-requires-3-clause-plain : goal.read_ids-requires-3-clause-plain
 read_ids-requires-3-clause-plain g c clean =
     let c1 : HasCleanDisk (state g.S.Store c.read_ids.new.conn) = omega (arith, clean, c.read_ids-2.ensures.survives.clean) in
     let front = c.requires.front (omega (arith, c1, c.read_ids.ensures.survives.clean)) in
     let same = (c.in_ok-meta.ensures.ok clean).0.now_is ∙ (c.in_ok-rows.ensures.ok c1).0.now_is in
-    log_plain (state g.S.Store c.read_ids-2.new.conn).now.schema (subst (λ (d : Database). HasFront d.schema) (sym same) front)
+    (ids_are part.Log (state g.S.Store c.read_ids-2.new.conn).now.schema (subst (λ (d : Database). HasFront d.schema) (sym same) front)).2
 
 pub returns-then-log-clause-counted : goal.returns-then-log-clause-counted
 returns-then-log-clause-counted g c clean =
@@ -60,7 +62,7 @@ returns-else-rows-clause-counted g c clean can =
 pub returns-in_err-rows-clause-cause : goal.returns-in_err-rows-clause-cause
 returns-in_err-rows-clause-cause g c clean =
     let p = err_from_is_err_and c.from_residual.result c.from_residual.ensures.1 in
-    rw (p.1, p.2) (c.in_err-rows.ensures.cause clean (rows_granted (state g.S.Store c.args.conn.now).now (c.requires.front (omega (arith, clean, c.read_ids.ensures.survives.clean)))))
+    rw (p.1, p.2) (c.in_err-rows.ensures.cause clean (ids_granted part.Rows (state g.S.Store c.args.conn.now).now (c.requires.front (omega (arith, clean, c.read_ids.ensures.survives.clean)))))
 
 pub returns-in_err-meta-clause-cause : goal.returns-in_err-meta-clause-cause
 returns-in_err-meta-clause-cause g c clean =
@@ -72,7 +74,7 @@ returns-in_err-meta-clause-cause g c clean =
     let u = c.in_ok-rows.ensures.ok c1 in
     let front = subst (λ (d : Database). HasFront d.schema) (sym u.0.now_is) (c.requires.front c0) in
     let p = err_from_is_err_and c.from_residual-in_err-meta.result c.from_residual-in_err-meta.ensures.1 in
-    rw (p.1, p.2) (caused_unchanged s0 s1 s2 (λ _. ⊥) c.in_err-meta.field-0.0 c.read_ids.ensures.survives u (c.in_err-meta.ensures.cause clean (meta_granted s1.now front)))
+    rw (p.1, p.2) (caused_unchanged s0 s1 s2 (λ _. ⊥) c.in_err-meta.field-0.0 c.read_ids.ensures.survives u (c.in_err-meta.ensures.cause clean (ids_granted part.Meta s1.now front)))
 
 pub returns-in_err-log-clause-cause : goal.returns-in_err-log-clause-cause
 returns-in_err-log-clause-cause g c clean =
@@ -88,4 +90,4 @@ returns-in_err-log-clause-cause g c clean =
     let front = subst (λ (d : Database). HasFront d.schema) (sym (w.0.now_is ∙ u.0.now_is)) (c.requires.front c0) in
     let p = err_from_is_err_and c.from_residual-in_err-log.result c.from_residual-in_err-log.ensures.1 in
     rw (p.1, p.2) (caused_unchanged s0 s1 s3 (λ _. ⊥) c.in_err-log.field-0.0 c.read_ids.ensures.survives u
-    (caused_unchanged s1 s2 s3 (λ _. ⊥) c.in_err-log.field-0.0 c.read_ids-2.ensures.survives w (c.in_err-log.ensures.cause clean (log_granted s2.now front))))
+    (caused_unchanged s1 s2 s3 (λ _. ⊥) c.in_err-log.field-0.0 c.read_ids-2.ensures.survives w (c.in_err-log.ensures.cause clean (ids_granted part.Log s2.now front))))
