@@ -589,8 +589,47 @@ asks ' place' unread
 asks place 'replica 7 version 0 pending 0 flight 0'
 follows "$input" "$output"
 
-# A node without `--follow` reads none of the lines that look.
-for line in place 'rows t1' 'row t1 1' pending; do
+# Several edits are one request with one reply, and one commit: each on what those before it left, all or none. Its lines are read in any case.
+begins
+asks 'edits 2\nedit insert t1 1 t=v1\nedit update t1 1 t=v2' ok
+asks pending 'table t1 10' 'insert 0 1 t=v2'
+asks 'edits 3\nedit insert t1 2 t=x\nedit insert t1 1 t=y\nedit insert t1 3 t=z' 'refused 2 Exists'
+asks 'edits 2\nedit insert t9 1 t=x\nedit insert t1 2 t=y' 'refused 1 NoTable'
+asks 'edits 3\nedit insert t1 2 t=x\nedit delete t1 2\nedit delete t1 2' 'refused 3 Missing'
+asks 'edits 3\nedit insert t1 2 t=x\npush\nedit insert t1 3 t=z' unread
+asks 'edits 2\nedit insert t1\nedit insert t1 2 t=x' unread
+asks 'edits 2\nedits 1\nedit insert t1 2 t=x' unread
+asks 'edits 1\n' unread
+while read -r line; do
+    asks "$line" unread
+done << 'END'
+edits
+edits 1 1
+edits -1
+edits +1
+edits x
+edits 4294967296
+END
+asks place 'replica 7 version 0 pending 1 flight 0'
+asks 'edits 0' ok
+asks 'edits 001\nedit delete t1 1' ok
+asks 'edits 2\nedit insert t2 1 null 5 x=00\nedit insert t1 1 t=v1' ok
+asks dump 'replica 7 version 0 pending 2 flight 0' 'row t1 1 t=v1' 'row t2 1 null 5 x=00'
+follows "$input" "$output"
+# Nothing is done where the input ends within them, also right behind the first line.
+for lines in 'edits 2\nedit delete t1 1' 'edits 1'; do
+    input=''
+    output=''
+    asks "$lines" unread
+    follows "$input" "$output"
+done
+input=''
+output=''
+asks dump 'replica 7 version 0 pending 2 flight 0' 'row t1 1 t=v1' 'row t2 1 null 5 x=00'
+follows "$input" "$output"
+
+# A node without `--follow` reads none of the lines that look, and no line behind which edits come.
+for line in place 'rows t1' 'row t1 1' pending 'edits 0' 'edits 1'; do
     begins
     expect 1 "$line\n" '' 'sync: line 1\n' node "$file" 7 t1:10
 done
@@ -665,6 +704,8 @@ turn place 'replica 7 version 0 pending 1 flight 0'
 expect 1 'place\n' '' 'sync: Device\n' node --follow "$file" 7 t1:10
 expect 1 'dump\n' '' 'sync: Device\n' node "$file" 7 t1:10
 turn nothing unread
+turn $'edits 2\nedit insert t1 2 t=x\nedit delete t1 2' ok
+turn $'edits 2\nedit insert t1 2 t=x\nedit insert t1 1 t=y' 'refused 2 Exists'
 turn 'row t1 1' 'row t1 1 t=v1'
 exec 3>&- 4<&-
 wait "$follower" || tell "ended with $? on pipes" node --follow "$file" 7 t1:10

@@ -124,6 +124,10 @@ COMMANDS = [
     # Another's entry, taken; an edit, and at the end an entry at which a wish stops. The text of its clash takes five allocations, so more of all are refused.
     ("follow", ["node", "--follow", "@", "7", TABLE], [],
      [f"answer {TAKEN} s", "place", "edit insert t1 1 t=v1", f"answer {CLASHES} s"], ["dump", "pending"], r"^(refused|fault) Memory|clash Memory$", 5),
+    # Several edits as one request: some that are made, and some of which the second is refused.
+    ("edits", ["node", "--follow", "@", "7", TABLE], [],
+     ["edits 2\nedit insert t1 1 t=v1\nedit insert t1 2 t=v2", "place", "edits 2\nedit delete t1 1\nedit insert t1 2 t=v3", "edits 1\nedit update t1 2 t=v3"],
+     ["dump", "pending"], r"^refused Memory"),
     # Two pushes on the base 0, of which the second is stale, one more, a pull, and a catch of both entries by another replica.
     ("hub", ["hub", "--file", "@", TABLE], [],
      [f"01000000070000000000000001000000000000000000000016{INSERT}", f"01000000080000000000000001000000000000000000000016{INSERT}",

@@ -3,5 +3,9 @@ pub mod Sees
 pub mod Turned
 pub mod Shown
 pub mod Found
+pub mod Requests
+pub mod Taken
+pub mod Gathering
+pub mod Several
 pub mod Followed
 pub mod OneFollow

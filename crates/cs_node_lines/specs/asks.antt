@@ -1,3 +1,4 @@
 pub mod Asked
 pub mod Looked
+pub mod Several
 pub mod Reading

@@ -9,8 +9,10 @@ mod ask;
 mod fault;
 mod input;
 mod look;
+mod several;
 
 pub use ask::{Ask, read_ask};
 pub use fault::ReadFault;
 pub use input::read_asks;
 pub use look::{Look, read_look};
+pub(crate) use several::read_several;

@@ -1,5 +1,5 @@
--- A line that is answered as it comes has one text at the same replica, and leaves the same replica.
-use Rattle.std.proofs.Common.{◌≡◌, ◌∙◌, ◌<◌, ◌≤◌, ℕ, List, [], length, arith, Result, Ok, Err, Bool, true, false, refl, sym, ap, subst, inl, inr}
+-- A request that is answered as it comes has one text at the same replica, and leaves the same replica.
+use Rattle.std.proofs.Common.{◌≡◌, ◌∙◌, ◌<◌, ◌≤◌, ℕ, List, [], ◌∷◌, length, arith, Result, Ok, Err, Bool, true, false, refl, sym, ap, subst, inl, inr}
 use Rattle.std.specs.Prelude.{Option, Some, None}
 use Rattle.std.specs.FinMap.{len}
 use Rattle.cs_conflict.specs.declared.clash.Clash.{Clash}
@@ -13,6 +13,8 @@ use Rattle.cs_normal.specs.State.{State}
 use Rattle.cs_normal.specs.keyed.Changes.{key_bytes}
 use Rattle.cs_pending.specs.Laws.{OneView}
 use Rattle.cs_pending.specs.View.{View}
+use Rattle.cs_pending.specs.declared.fault.EditsFault.{EditsFault}
+use Rattle.cs_pending.specs.declared.fault.EditsFault.TheVariants as several
 use Rattle.cs_pending.specs.declared.outgoing.gathering.Outgoing.{Outgoing}
 use Rattle.cs_pending.specs.declared.outgoing.gathering.Outgoing.TheVariants.{Changes, Nothing, TooLarge}
 use Rattle.cs_pending.specs.declared.position.position.Position.{Position}
@@ -23,24 +25,28 @@ use Rattle.cs_replica.specs.Answered.{Answers}
 use Rattle.cs_replica.specs.Laws.{IsOfAnswer, OneAnswered}
 use Rattle.cs_replica.specs.Same.{IsSameMember, IsShown}
 use Rattle.cs_replica.specs.Step.{Member}
+use Rattle.cs_replica.specs.StepLaws.{AreOfEdits, OneEditedAll}
 use Rattle.cs_replica.specs.declared.told.Told.{Told}
 use Rattle.cs_store.specs.Contents.{Contents}
 use Rattle.cs_store.specs.declared.log.entry.TheConstants.{MAX_CHANGESET}
 use Rattle.cs_text.specs.Text.{changeset_text, line}
 use Rattle.cs_value.specs.Catalog.{AreTables}
 use Rattle.cs_value.specs.declared.catalog.TableDef.{TableDef}
+use Rattle.cs_value.specs.declared.edit.Edit.{Edit}
 use Rattle.cs_wire.specs.Laws.{OneToldAnswer}
 use Rattle.cs_wire.specs.declared.answer.Answer.{Answer as Told_by}
 use Rattle.cs_wire.specs.declared.fault.WireFault.{WireFault}
 use Rattle.cs_node_lines.specs.asks.Asked.{ask_in}
 use Rattle.cs_node_lines.specs.asks.Looked.{look_in}
+use Rattle.cs_node_lines.specs.asks.Several.{several_in}
 use Rattle.cs_node_lines.specs.declared.asks.ask.Ask.{Ask}
 use Rattle.cs_node_lines.specs.declared.asks.ask.Ask.TheVariants.{Answer, Catch, Dump, OnEdit, Pull, Push, Resend}
 use Rattle.cs_node_lines.specs.declared.asks.look.Look.{Look}
 use Rattle.cs_node_lines.specs.declared.asks.look.Look.TheVariants as look
-use Rattle.cs_node_lines.specs.following.FollowStep.{AskStep, FollowStep, LookStep, ReadStep, Shown, TellsRows, has_table, outgoing_text, row_told}
+use Rattle.cs_node_lines.specs.following.FollowStep.{AskStep, FollowStep, LookStep, ReadStep, RequestStep, Shown, TellsRows, has_table, outgoing_text, row_told}
 use Rattle.cs_node_lines.specs.following.Laws.{OneFollowRun, OneFollowStep, SaysNothing}
 use Rattle.cs_node_lines.specs.following.Seen.{HearsSeeing, IsSeen, Seeing, SeesAnswer, seen_by, seen_text}
+use Rattle.cs_node_lines.specs.following.Several.{EditsStep, ReadEditsStep, all_edited_text, all_edits_in}
 use Rattle.cs_node_lines.specs.told.Dump.{replica_text, rows_text}
 use Rattle.cs_node_lines.specs.working.Laws.{OneLineStep}
 use Rattle.cs_node_lines.specs.working.Texts.{refused_text, wire_fault_text}
@@ -49,6 +55,7 @@ use Rattle.cs_node_lines.proofs.WorkingLemmas.OneLine.{one_run, shown_after, sta
 -- the laws below
 pub record Beneath : Type 0 where
   pub line : OneLineStep
+  pub edited : OneEditedAll
   pub rows : OneTableOfRows
   pub answer : OneToldAnswer
   pub contents : OneContents
@@ -82,6 +89,13 @@ seen_tells tables (Ok told) seen version text is not = tt
 seen_tells tables (Err (hearing.Memory count)) seen version text is not = not (inl (inr (inr (hearing.Memory count, λ of. of, is))))
 seen_tells tables (Err (hearing.Device count)) seen version text is not = not (inl (inr (inr (hearing.Device count, λ of. of, is))))
 seen_tells tables (Err (hearing.BadEntry count)) seen version text is not = tt
+
+-- so is one of several edits
+edits_tell : (result : Result (Unit {0}) EditsFault) (text : List ℕ) → text ≡ all_edited_text result → (SaysNothing text → ⊥) → AreOfEdits result
+edits_tell (Ok done) text is not = tt
+edits_tell (Err several.Memory) text is not = not (inl (inl is))
+edits_tell (Err several.Device) text is not = not (inl (inr (inl is)))
+edits_tell (Err (several.Refused at fault)) text is not = tt
 
 module _ (laws : Beneath) (tables : List TableDef) (are : AreTables tables) (had has its_had its_has : ℕ) (before its : Member) (shown : IsShown tables before) (sees : IsShown tables its) (same : IsSameMember tables before its) where
   -- ---- an answer
@@ -190,7 +204,19 @@ module _ (laws : Beneath) (tables : List TableDef) (are : AreTables tables) (had
   look_once asked some other one last not never (still, inl shows) (stays, inr (fault, device, so)) = absurd (store_tells fault other so (λ says. never (inl says)))
   look_once asked some other one last not never (still, inr (fault, device, is)) goes = absurd (store_tells fault some is (λ says. not (inl says)))
 
-  -- ---- a line
+  -- ---- a request
+
+  edits_once : (edits : List Edit) (some other : List ℕ) (one last : Member) → (SaysNothing some → ⊥) → (SaysNothing other → ⊥) → EditsStep tables had has before edits some one → EditsStep tables its_had its_has its edits other last
+      → (some ≡ other) × IsSameMember tables one last
+  edits_once edits some other one last not never (result, goes, device, is) (outcome, went, failed, so) =
+      let all = laws.edited tables edits result outcome before its one last same (edits_tell result some is not) (edits_tell outcome other so never) goes went in
+      (is ∙ (ap all_edited_text all.0 ∙ sym so), all.1)
+
+  all_once : (edits : Option (List Edit)) (some other : List ℕ) (one last : Member) → (SaysNothing some → ⊥) → (SaysNothing other → ⊥)
+      → ReadEditsStep tables had has before edits some one → ReadEditsStep tables its_had its_has its edits other last
+      → (some ≡ other) × IsSameMember tables one last
+  all_once (Some edits) some other one last not never goes went = edits_once edits some other one last not never goes went
+  all_once None some other one last not never (still, is) (stays, so) = (is ∙ sym so, stays_same tables before its one last still stays same)
 
   read_once : (ask : Option Ask) (asked : Option Look) (some other : List ℕ) (one last : Member) → (SaysNothing some → ⊥) → (SaysNothing other → ⊥)
       → ReadStep tables had has before ask asked some one → ReadStep tables its_had its_has its ask asked other last
@@ -199,17 +225,24 @@ module _ (laws : Beneath) (tables : List TableDef) (are : AreTables tables) (had
   read_once None (Some asked) some other one last not never goes went = look_once asked some other one last not never goes went
   read_once None None some other one last not never (still, is) (stays, so) = (is ∙ sym so, stays_same tables before its one last still stays same)
 
-  follow_once : (asked some other : List ℕ) (one last : Member) → (SaysNothing some → ⊥) → (SaysNothing other → ⊥) → FollowStep tables had has before asked some one → FollowStep tables its_had its_has its asked other last
+  request_once : (count : Option ℕ) (first : List ℕ) (more : List (List ℕ)) (some other : List ℕ) (one last : Member) → (SaysNothing some → ⊥) → (SaysNothing other → ⊥)
+      → RequestStep tables had has before count first more some one → RequestStep tables its_had its_has its count first more other last
       → (some ≡ other) × IsSameMember tables one last
-  follow_once asked some other one last not never (inl goes) (inl went) = read_once (ask_in tables asked) (look_in asked) some other one last not never goes went
-  follow_once asked some other one last not never (inl goes) (inr (stays, memory)) = absurd (never (inl (inl memory)))
-  follow_once asked some other one last not never (inr (still, memory)) went = absurd (not (inl (inl memory)))
+  request_once None first more some other one last not never goes went = read_once (ask_in tables first) (look_in first) some other one last not never goes went
+  request_once (Some count) first more some other one last not never goes went = all_once (all_edits_in tables count more) some other one last not never goes went
+
+  follow_once : (asked : List (List ℕ)) (some other : List ℕ) (one last : Member) → (SaysNothing some → ⊥) → (SaysNothing other → ⊥) → FollowStep tables had has before asked some one → FollowStep tables its_had its_has its asked other last
+      → (some ≡ other) × IsSameMember tables one last
+  follow_once [] some other one last not never goes went = absurd goes
+  follow_once (first ∷ more) some other one last not never (inl goes) (inl went) = request_once (several_in first) first more some other one last not never goes went
+  follow_once (first ∷ more) some other one last not never (inl goes) (inr (stays, memory)) = absurd (never (inl (inl memory)))
+  follow_once (first ∷ more) some other one last not never (inr (still, memory)) went = absurd (not (inl (inl memory)))
 
 pub one_follow_step : Beneath → OneFollowStep
 one_follow_step laws tables asked some other had has its_had its_has before its one last are shown sees same not never goes went =
     follow_once laws tables are had has its_had its_has before its shown sees same asked some other one last not never goes went
 
--- ---- lines one behind another
+-- ---- requests one behind another
 
 module _ (tables : List TableDef) (had has : ℕ) (before after : Member) (shown : IsShown tables before) where
   still_shown : after ≡ before → IsShown tables after
@@ -233,9 +266,19 @@ module _ (tables : List TableDef) (had has : ℕ) (before after : Member) (shown
   read_shown None (Some asked) text (still, shows) = still_shown still
   read_shown None None text (still, is) = still_shown still
 
-  follow_shown : (asked text : List ℕ) → FollowStep tables had has before asked text after → IsShown tables after
-  follow_shown asked text (inl goes) = read_shown (ask_in tables asked) (look_in asked) text goes
-  follow_shown asked text (inr (still, memory)) = still_shown still
+  all_shown : (edits : Option (List Edit)) (text : List ℕ) → ReadEditsStep tables had has before edits text after → IsShown tables after
+  all_shown (Some edits) text (Ok done, (count, next, left, is, made, shows), device, says) = subst (IsShown tables) (sym is) (record { contents = left; shows = shows })
+  all_shown (Some edits) text (Err fault, (still, why), device, says) = still_shown still
+  all_shown None text (still, is) = still_shown still
+
+  request_shown : (count : Option ℕ) (first : List ℕ) (more : List (List ℕ)) (text : List ℕ) → RequestStep tables had has before count first more text after → IsShown tables after
+  request_shown None first more text goes = read_shown (ask_in tables first) (look_in first) text goes
+  request_shown (Some count) first more text goes = all_shown (all_edits_in tables count more) text goes
+
+  follow_shown : (asked : List (List ℕ)) (text : List ℕ) → FollowStep tables had has before asked text after → IsShown tables after
+  follow_shown [] text goes = absurd goes
+  follow_shown (first ∷ more) text (inl goes) = request_shown (several_in first) first more text goes
+  follow_shown (first ∷ more) text (inr (still, memory)) = still_shown still
 
 pub one_follow_run : OneFollowStep → OneFollowRun
 one_follow_run law = one_run FollowStep SaysNothing law (λ tables had has before after asked text shown goes. follow_shown tables had has before after shown asked text goes)

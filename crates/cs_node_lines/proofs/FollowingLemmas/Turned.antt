@@ -6,7 +6,7 @@ use Rattle.cs_replica.specs.Step.{Member, member_of}
 use Rattle.cs_store.specs.declared.store.RowStore.{Ghosts}
 use Rattle.cs_value.specs.declared.catalog.TableDef.{TableDef}
 use Rattle.cs_node_lines.specs.declared.working.reply.Reply.{Reply}
-use Rattle.cs_node_lines.specs.working.Steps.{Counted, Makes}
+use Rattle.cs_node_lines.specs.working.Steps.{Counted, Makes, Stepped}
 
 module _ {S : Type 0} (g : Ghosts S) where
   -- what a step leads to
@@ -23,13 +23,16 @@ module _ {S : Type 0} (g : Ghosts S) where
     };
   }
 
+  pub stepped_map : {A B : Type 0} (step : List TableDef → ℕ → ℕ → Member → A → List ℕ → Member → Type 0) (other : List TableDef → ℕ → ℕ → Member → B → List ℕ → Member → Type 0)
+      (asked : A) (its : B) (text : List ℕ) (old new : Holding S)
+      → ((had has : ℕ) (before after : Member) → step old.catalog had has before asked text after → other old.catalog had has before its text after)
+      → Stepped g step asked text old new → Stepped g other its text old new
+  stepped_map step other asked its text old new leads stepped =
+      counted_map (λ had has before after. step old.catalog had has before asked text after) (λ had has before after. other old.catalog had has before its text after) old new leads stepped
+
   pub makes_map : {A B : Type 0} (step : List TableDef → ℕ → ℕ → Member → A → List ℕ → Member → Type 0) (other : List TableDef → ℕ → ℕ → Member → B → List ℕ → Member → Type 0)
       (asked : A) (its : B) (result : Result Reply AllocError) (old new : Holding S)
       → ((had has : ℕ) (before after : Member) (text : List ℕ) → step old.catalog had has before asked text after → other old.catalog had has before its text after)
       → Makes g step asked result old new → Makes g other its result old new
-  makes_map step other asked its result old new leads (text, stepped, says) = (
-    text,
-    counted_map (λ had has before after. step old.catalog had has before asked text after) (λ had has before after. other old.catalog had has before its text after) old new
-        (λ had has before after goes. leads had has before after text goes) stepped,
-    says,
-  )
+  makes_map step other asked its result old new leads (text, stepped, says) =
+      (text, stepped_map step other asked its text old new (λ had has before after goes. leads had has before after text goes) stepped, says)

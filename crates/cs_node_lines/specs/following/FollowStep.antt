@@ -1,4 +1,4 @@
--- What a line makes of a replica that answers each line as it comes, and what is printed of it (profile of this project).
+-- What a request makes of a replica that answers each as it comes, and what is printed of it (profile of this project).
 use Rattle.std.specs.Prelude.{◌≡◌, ◌⊎◌, ℕ, Bool, true, false, List, [], ◌∷◌, Option, Some, None, codes}
 use Rattle.std.specs.List.{list_any}
 use Rattle.std.specs.Str.{bytes_eq}
@@ -16,11 +16,13 @@ use Rattle.cs_value.specs.declared.catalog.TableDef.{TableDef}
 use Rattle.cs_value.specs.declared.value.Value.{Value}
 use Rattle.cs_node_lines.specs.asks.Asked.{ask_in}
 use Rattle.cs_node_lines.specs.asks.Looked.{look_in}
+use Rattle.cs_node_lines.specs.asks.Several.{several_in}
 use Rattle.cs_node_lines.specs.declared.asks.ask.Ask.{Ask}
 use Rattle.cs_node_lines.specs.declared.asks.ask.Ask.TheVariants.{Answer, Catch, Dump, OnEdit, Pull, Push, Resend}
 use Rattle.cs_node_lines.specs.declared.asks.look.Look.{Look}
 use Rattle.cs_node_lines.specs.declared.asks.look.Look.TheVariants as look
 use Rattle.cs_node_lines.specs.following.Seen.{SeesAnswer}
+use Rattle.cs_node_lines.specs.following.Several.{ReadEditsStep, all_edits_in}
 use Rattle.cs_node_lines.specs.told.Dump.{replica_text, rows_text}
 use Rattle.cs_node_lines.specs.working.LineStep.{LineStep, ReadsNone, SaysMemory}
 use Rattle.cs_node_lines.specs.working.Texts.{refused_text, unread_text}
@@ -80,7 +82,13 @@ ReadStep tables had has before (Some ask) look text after = AskStep tables had h
 ReadStep tables had has before None (Some look) text after = LookStep tables had has before look text after
 ReadStep tables had has before None None text after = (after ≡ before) × (text ≡ unread_text)
 
--- what a line without its line feed makes of a replica, and its text; or memory was refused, and nothing is done
-abbrev pub FollowStep : List TableDef → ℕ → ℕ → Member → List ℕ → List ℕ → Member → Type 0
-FollowStep tables had has before asked text after =
-    ReadStep tables had has before (ask_in tables asked) (look_in asked) text after ⊎ ((after ≡ before) × SaysMemory text)
+-- what a request makes of a replica by its first line, and the lines behind that, where it says how many come
+abbrev pub RequestStep : List TableDef → ℕ → ℕ → Member → Option ℕ → List ℕ → List (List ℕ) → List ℕ → Member → Type 0
+RequestStep tables had has before None first more text after = ReadStep tables had has before (ask_in tables first) (look_in first) text after
+RequestStep tables had has before (Some count) first more text after = ReadEditsStep tables had has before (all_edits_in tables count more) text after
+
+-- what a request, in lines without their line feeds, makes of a replica, and its text; or memory was refused, and nothing is done
+abbrev pub FollowStep : List TableDef → ℕ → ℕ → Member → List (List ℕ) → List ℕ → Member → Type 0
+FollowStep tables had has before [] text after = ⊥
+FollowStep tables had has before (first ∷ more) text after =
+    RequestStep tables had has before (several_in first) first more text after ⊎ ((after ≡ before) × SaysMemory text)

@@ -97,8 +97,8 @@ pub(crate) fn alone<A: Drop>(asked: A, words: &Words<'_>) -> Option<A>
     if words.is_at_end() { Some(asked) } else { None }
 }
 
-// How many entries at most, where no word follows.
-fn read_limit(words: &mut Words<'_>) -> Option<u32>
+// How many at most, where no word follows.
+pub(crate) fn read_limit(words: &mut Words<'_>) -> Option<u32>
     ensures { result ≡ limit_in words.old }
 {
     let limit = words.next()?;

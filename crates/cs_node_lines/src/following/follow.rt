@@ -1,86 +1,23 @@
-//! One run of a replica that answers each line as it comes.
+//! One run of a replica that answers each request as it comes.
 
 ghost use Rattle.std.specs.Prelude.{◌≡◌, ◌<◌, ◌-◌, ◌^◌, OnErr, OnOk};
 ghost use Rattle.std.specs.Io.KnownBytes.{Appends};
 ghost use Rattle.cs_lines.specs.Writing.{AppendsFront};
 ghost use Rattle.cs_node_lines.specs.following.Endings.{EndsFollowing};
-ghost use Rattle.cs_node_lines.specs.following.FollowStep.{AskStep, FollowStep};
-ghost use Rattle.cs_node_lines.specs.following.Steps.{FollowsAll, FollowsNext, Replies};
+ghost use Rattle.cs_node_lines.specs.following.Steps.{FollowsAll, FollowsNext};
 ghost use Rattle.cs_node_lines.specs.working.Replies.{reply_text};
-ghost use Rattle.cs_node_lines.specs.working.Steps.{Makes};
 ghost use Rattle.cs_text.specs.Text.{line as lined};
 
-use crate::asks::{Ask, read_ask, read_look};
-use crate::following::looking::look_line;
-use crate::following::seeing::seen_line;
-use crate::working::{NodeFault, Reply, put_text, work_ask};
-use cs_lines::{ASKS, LineInput, LineOutput, LineRead, read_line};
+use crate::following::next::{Next, next_reply};
+use crate::working::{NodeFault, Reply, put_text};
+use cs_lines::{ASKS, LineInput, LineOutput};
 use cs_replica::Replica;
 use cs_store::RowStore;
-use cs_value::{Catalog, Memory};
+use cs_value::Catalog;
 use std::alloc::Global;
 use std::io;
 
-/// Does what a node's line asks, and gives what is printed of it; of an answer also at what a wish stopped.
-fn ask_line<S: RowStore>(
-    alloc: Global,
-    replica: &mut Replica<S>,
-    catalog: &Catalog,
-    ask: &Ask,
-) -> Result<Reply, Memory>
-    requires { replica.old.catalog ≡ catalog.now }
-    ensures { Makes S.RowStore AskStep ask.now result replica.old replica.new }
-{
-    match ask {
-        Ask::Answer { bytes, wishes } => {
-            seen_line(alloc, replica, catalog, bytes.as_slice(), wishes.as_slice())
-        }
-        ask => work_ask(alloc, replica, catalog, ask),
-    }
-}
-
-/// Does what a line asks, if it can be read, and gives what is printed of it.
-fn follow_line<S: RowStore>(
-    alloc: Global,
-    replica: &mut Replica<S>,
-    catalog: &Catalog,
-    line: &[u8],
-) -> Result<Reply, Memory>
-    requires { replica.old.catalog ≡ catalog.now }
-    ensures { Makes S.RowStore FollowStep line.now result replica.old replica.new }
-{
-    match read_ask(alloc, catalog, line) {
-        Ok(Some(ask)) => return ask_line(alloc, replica, catalog, &ask),
-        Ok(None) => {}
-        Err(_) => return Ok(Reply::Refused("Memory")),
-    }
-    match read_look(alloc, line) {
-        Ok(Some(look)) => Ok(look_line(alloc, replica, catalog, &look)),
-        Ok(None) => Ok(Reply::Unread),
-        Err(_) => Ok(Reply::Refused("Memory")),
-    }
-}
-
-/// Reads the next line, for which the buffer is used, does what it asks, and gives what is printed of it; none at the input's end.
-fn next_reply<S: RowStore, R: LineInput>(
-    alloc: Global,
-    replica: &mut Replica<S>,
-    catalog: &Catalog,
-    reader: &mut R,
-    line: &mut Vec<u8>,
-) -> Result<Option<Reply>, NodeFault>
-    requires { replica.old.catalog ≡ catalog.now }
-    ensures { Replies S.RowStore result (R.failed reader.new) (R.remaining reader.old) (R.remaining reader.new) replica.old replica.new }
-{
-    match read_line(reader, line) {
-        Ok(LineRead::Whole) => Ok(Some(follow_line(alloc, replica, catalog, line.as_slice())?)),
-        Ok(LineRead::Skipped) => Ok(Some(Reply::Refused("Memory"))),
-        Ok(LineRead::End) => Ok(None),
-        Err(_) => Err(NodeFault::Read),
-    }
-}
-
-/// Writes what is printed of a line and an empty line, and sends both.
+/// Writes what is printed of a request and an empty line, and sends both.
 fn write_replied<W: LineOutput>(writer: &mut W, reply: &Reply) -> io::Result<()>
     ensures written { OnOk result (Appends (W.contents writer.old) (W.contents writer.new) (lined (reply_text reply.now))) }
     ensures sent { OnOk result (W.sent writer.new) }
@@ -92,7 +29,7 @@ fn write_replied<W: LineOutput>(writer: &mut W, reply: &Reply) -> io::Result<()>
     writer.send()
 }
 
-/// Works the next line and prints its text, if there is one.
+/// Works the next request and prints its text, if there is one, and tells whether a further one may come.
 fn follow_next<S: RowStore, R: LineInput, W: LineOutput>(
     alloc: Global,
     replica: &mut Replica<S>,
@@ -106,16 +43,20 @@ fn follow_next<S: RowStore, R: LineInput, W: LineOutput>(
         (W.contents writer.old) (W.contents writer.new) replica.old replica.new }
     ensures sent { OnOk result (W.sent writer.old → W.sent writer.new) }
 {
-    let Some(reply) = next_reply(alloc, replica, catalog, reader, line)? else {
-        return Ok(false);
-    };
-    match write_replied(writer, &reply) {
-        Ok(()) => Ok(true),
-        Err(_) => Err(NodeFault::Write),
+    match next_reply(alloc, replica, catalog, reader, line)? {
+        Next::Replied(reply) => match write_replied(writer, &reply) {
+            Ok(()) => Ok(true),
+            Err(_) => Err(NodeFault::Write),
+        },
+        Next::Cut => match write_replied(writer, &Reply::Unread) {
+            Ok(()) => Ok(false),
+            Err(_) => Err(NodeFault::Write),
+        },
+        Next::Ended => Ok(false),
     }
 }
 
-/// Works the lines of an input, each before the next is read.
+/// Works the requests of an input, each before the next is read.
 fn follow<S: RowStore, R: LineInput, W: LineOutput>(
     alloc: Global,
     replica: &mut Replica<S>,
@@ -140,14 +81,16 @@ fn follow<S: RowStore, R: LineInput, W: LineOutput>(
     Err(NodeFault::Read)
 }
 
-/// Opens the replica with this id over a store, and works the lines of an input: the text of each and an empty line behind it are printed and
-/// sent before the next is read, and what it commits is committed before. A line that can't be read has the text `unread`, and one for which
-/// memory is refused `refused Memory`, with nothing done. An id is at most 4,294,967,294. The store comes back in any case.
+/// Opens the replica with this id over a store, and works the requests of an input: the text of each and an empty line behind it are printed and
+/// sent before the next is read, and what it commits is committed before. One that can't be read has the text `unread`, also where the input ends
+/// within it, and one for which memory is refused `refused Memory`, with nothing done. An id is at most 4,294,967,294. The store comes back in any
+/// case.
 ///
 /// # Errors
 ///
 /// `Open` and `Memory` where the replica isn't opened: then nothing is read or printed, and the store holds what it held. `Read` where the reader
-/// failed, or was asked `ASKS` times. `Write`, and `Memory` for a text, at a line: what was done stays done, the line's own step too.
+/// failed, or `ASKS` requests were worked: then nothing was done of a request that isn't whole. `Write`, and `Memory` for a text, at a request: what
+/// was done stays done, its own step too. `Memory` also where there is none for a request's first line: nothing was done of it.
 pub fn follow_on<S: RowStore, R: LineInput, W: LineOutput>(
     alloc: Global,
     store: S,

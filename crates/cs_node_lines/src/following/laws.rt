@@ -1,15 +1,22 @@
-//! The laws of lines that are answered as they come, each the contract of a function that does nothing.
+//! The laws of requests that are answered as they come, each the contract of a function that does nothing.
 
-ghost use Rattle.cs_node_lines.specs.following.Laws.{OneFollowRun, OneFollowStep};
+ghost use Rattle.cs_node_lines.specs.following.Laws.{SomeListOfRequests, OneFollowRun, OneFollowStep, OneListOfRequests};
 
 use crate::following::noting::Unwished;
 use crate::working::laws::one_line_step;
 
-/// But for want of memory and a device that fails a line has one text, and leaves one replica.
+/// Lines make one list of requests, and there is one.
+pub fn one_list_of_requests()
+    ensures one { OneListOfRequests }
+    ensures made { SomeListOfRequests }
+{}
+
+/// But for want of memory and a device that fails a request has one text, and leaves one replica.
 pub fn one_follow_step()
     ensures { OneFollowStep }
 {
     one_line_step();
+    cs_replica::laws::one_edited_all();
     cs_pending::laws::one_view();
     cs_pending::outgoing::laws::one_pending();
     cs_pending::rows::laws::one_table_of_rows();
@@ -18,7 +25,7 @@ pub fn one_follow_step()
     cs_wire::laws::one_told_answer();
 }
 
-/// So do lines one behind another.
+/// So do requests one behind another.
 pub fn one_follow_run()
     ensures { OneFollowRun }
 {

@@ -9,12 +9,12 @@ loop-asked-init g c =
 
 pub loop-asked-preserved : goal.loop-asked-preserved
 loop-asked-preserved g c = let told = rw c.in-Ok-true.field-0-test at c.in-Ok-true.ensures.told in (
-  following_on g.S.RowStore c.lines_taken.ensures.more c.loop-asked._asked (g.R.LineInput.failed c.follow_next.new.reader) (g.W.LineOutput.failed c.follow_next.new.writer)
+  following_on g.S.RowStore c.loop-asked._asked (g.R.LineInput.failed c.follow_next.new.reader) (g.W.LineOutput.failed c.follow_next.new.writer)
       (g.R.Read.remaining c.args.reader.now) (g.R.Read.remaining c.loop-asked.reader) (g.R.Read.remaining c.follow_next.new.reader)
       (g.W.Write.contents c.args.writer.now) (g.W.Write.contents c.loop-asked.writer) (g.W.Write.contents c.follow_next.new.writer)
       c.args.replica.now c.loop-asked.replica c.follow_next.new.replica c.loop-asked.invariant.0 told,
   λ sent. c.in-Ok-true.ensures.sent (c.loop-asked.invariant.1 sent),
-  told.2.1.turns.catalog ∙ c.loop-asked.invariant.2,
+  told.3.1.turns.catalog ∙ c.loop-asked.invariant.2,
 )
 
 pub returns-in-Ok-false-clause-told : goal.returns-in-Ok-false-clause-told
@@ -29,7 +29,7 @@ returns-in-Ok-false-clause-sent g c = λ sent. c.in-Ok-false.ensures.sent (c.loo
 
 pub returns-in-Err-clause-told : goal.returns-in-Err-clause-told
 returns-in-Err-clause-told g c =
-    following_failed g.S.RowStore c.lines_taken.ensures.more c.loop-asked._asked c.in-Err.fault (g.R.LineInput.failed c.follow_next.new.reader) (g.W.LineOutput.failed c.follow_next.new.writer)
+    following_failed g.S.RowStore c.loop-asked._asked c.in-Err.fault (g.R.LineInput.failed c.follow_next.new.reader) (g.W.LineOutput.failed c.follow_next.new.writer)
     (g.R.Read.remaining c.args.reader.now) (g.R.Read.remaining c.loop-asked.reader) (g.R.Read.remaining c.follow_next.new.reader)
     (g.W.Write.contents c.args.writer.now) (g.W.Write.contents c.loop-asked.writer) (g.W.Write.contents c.follow_next.new.writer)
     c.args.replica.now c.loop-asked.replica c.follow_next.new.replica c.loop-asked.invariant.0 c.in-Err.ensures.told

@@ -5,6 +5,7 @@ pub returns : goal.returns
 returns c =
     one_follow_step (record {
       line = c.one_line_step.ensures;
+      edited = c.one_edited_all.ensures;
       rows = c.one_table_of_rows.ensures;
       answer = c.one_told_answer.ensures;
       contents = c.one_contents.ensures.contents;

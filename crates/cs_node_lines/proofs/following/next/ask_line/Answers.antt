@@ -1,5 +1,5 @@
 use Rattle.cs_node_lines.proofs.FollowingLemmas.Followed.{plain_so}
-use Rattle.cs_node_lines.proofs.following.follow.ask_line.Goals as goal
+use Rattle.cs_node_lines.proofs.following.next.ask_line.Goals as goal
 
 pub returns-in_default : goal.returns-in_default
 returns-in_default g c =
