@@ -597,7 +597,8 @@ asks 'edits 3\nedit insert t1 2 t=x\nedit insert t1 1 t=y\nedit insert t1 3 t=z'
 asks 'edits 2\nedit insert t9 1 t=x\nedit insert t1 2 t=y' 'refused 1 NoTable'
 asks 'edits 3\nedit insert t1 2 t=x\nedit delete t1 2\nedit delete t1 2' 'refused 3 Missing'
 asks 'edits 3\nedit insert t1 2 t=x\npush\nedit insert t1 3 t=z' unread
-asks 'edits 2\nedit insert t1\nedit insert t1 2 t=x' unread
+asks 'edits 2\nedit insert t1\nedit insert t1 2 t=x' 'refused 1 Width'
+asks 'edits 2\nedit insert t1 2 t\nedit insert t1 2 t=x' unread
 asks 'edits 2\nedits 1\nedit insert t1 2 t=x' unread
 asks 'edits 1\n' unread
 while read -r line; do
