@@ -7,8 +7,8 @@ ghost use Rattle.cs_order.specs.Spots.{IsSpotIn, keys_in};
 
 use std::marker::Model;
 
-/// Keys that are lent, as slices, or as spots in one piece of memory, so that no list of slices has to be made of these. (Slices
-/// come first where there are both.)
+/// Lent keys: slices, or spots in one piece of memory, so that no list of slices has to be made of these. (Slices come first
+/// where there are both.)
 #[derive(Drop)]
 pub(crate) struct LentKeys<'a> {
     slices: &'a [&'a [u8]],
