@@ -11,7 +11,7 @@ use Rattle.cs_node_lines.specs.working.Endings.{EndsWorking}
 use Rattle.cs_store.specs.declared.fault.StoreFault.{StoreFault}
 use Rattle.cs_store.specs.declared.store.RowStore.{Ghosts}
 use Rattle.cs_tools.specs.Endings.{Ends}
-use Rattle.cs_tools.specs.Files.{CombinesFiles, Reading as FileReading, RefusesFile, RefusesFiles, ShowsFile}
+use Rattle.cs_tools.specs.Files.{CombinesFiles, Reading, RefusesFile, RefusesFiles, ShowsFile}
 use Rattle.cs_tools.specs.declared.input_files.InputFiles.{Ghosts as Files}
 use Rattle.cs_value.specs.declared.catalog.TableDef.{TableDef}
 use Rattle.sync_cli.specs.Endings.{EndsAs, EndsServing, EndsTool, EndsWorld, LacksMemory, OnTables}
@@ -53,7 +53,7 @@ module _ {O S : Type 0} (g : Ghosts S) (o : Opening O S) (opener : O) where
       OverStore path (λ store last. EndsAs of_node (EndsFollowing g tables id store last streams.input streams.left streams.read_failed streams.write_failed streams.old streams.new) result) streams result
 
 -- and files to be read
-module _ {O S I : Type 0} (g : Ghosts S) (o : Opening O S) (reads : FileReading I) (files : Files O I) (opener : O) where
+module _ {O S I : Type 0} (g : Ghosts S) (o : Opening O S) (reads : Reading I) (files : Files O I) (opener : O) where
   -- what the command line wants was done over the tables that its words spell, or the files that they name
   abbrev pub EndsWanted : Wanted → List (List ℕ) → List (List ℕ) → Streams → Result ⊤ RunFault → Type 0
   EndsWanted (Hub file) words paths streams result =

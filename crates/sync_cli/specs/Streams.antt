@@ -1,9 +1,6 @@
 -- What a run of the program reads and writes (profile of this project).
 use Rattle.std.specs.Prelude.{ℕ, List, Option}
-
--- what is known of what is read from: the bytes that remain and how many it holds, where these are known, and whether a read failed
-abbrev pub Reading : Type 0 → Type 1
-Reading R = record { remaining : R → Option (List ℕ); consumable_len : R → Option ℕ; failed : R → Type 0 }
+use Rattle.cs_tools.specs.Files.{Reading}
 
 -- what is known of what is written to: the bytes that it got, where these are known, whether none is held back, and whether a write failed
 abbrev pub Writing : Type 0 → Type 1

@@ -22,14 +22,14 @@ IsBegun [] = ⊥
 IsBegun (first ∷ more) = length more ≤ follows first
 
 -- they are the first lines of one that isn't whole
-abbrev pub IsCut : List (List ℕ) → Type 0
-IsCut [] = ⊥
-IsCut (first ∷ more) = length more < follows first
+abbrev pub IsUnfinished : List (List ℕ) → Type 0
+IsUnfinished [] = ⊥
+IsUnfinished (first ∷ more) = length more < follows first
 
 -- or there are none
 abbrev pub IsPart : List (List ℕ) → Type 0
 IsPart [] = Unit {0}
-IsPart (first ∷ more) = IsCut (first ∷ more)
+IsPart (first ∷ more) = IsUnfinished (first ∷ more)
 
 -- the lines of requests
 abbrev pub joined : List (List (List ℕ)) → List (List ℕ)

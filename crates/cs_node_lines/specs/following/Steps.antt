@@ -33,7 +33,7 @@ use Rattle.cs_node_lines.specs.declared.working.fault.NodeFault.{NodeFault}
 use Rattle.cs_node_lines.specs.declared.working.fault.NodeFault.TheVariants.{Line, Memory, Open, Read, Write}
 use Rattle.cs_node_lines.specs.following.Endings.{replied}
 use Rattle.cs_node_lines.specs.following.FollowStep.{FollowStep, ReadStep}
-use Rattle.cs_node_lines.specs.following.Requests.{AreRequests, IsBegun, IsCut, IsPart, IsWhole, joined, with_part}
+use Rattle.cs_node_lines.specs.following.Requests.{AreRequests, IsBegun, IsUnfinished, IsPart, IsWhole, joined, with_part}
 use Rattle.cs_node_lines.specs.following.Seen.{HearsSeeing, lacking_text}
 use Rattle.cs_node_lines.specs.following.Several.{ReadEditsStep, edits_in}
 use Rattle.cs_node_lines.specs.working.Endings.{BreaksOff}
@@ -148,7 +148,7 @@ module _ {S : Type 0} (g : Ghosts S) where
 
   -- the input ended within a request, which can't be read
   abbrev pub TakesPart : Option (List ℕ) → Holding S → Holding S → List (List ℕ) → Type 0
-  TakesPart input old new asked = AreAllLines input asked × IsCut asked × Stepped g FollowStep asked unread_text old new
+  TakesPart input old new asked = AreAllLines input asked × IsUnfinished asked × Stepped g FollowStep asked unread_text old new
 
   -- there was no line to take: the input is at its end, or its reader failed, maybe within a request; the replica stays
   abbrev pub TakesNoLine : Option (List ℕ) → Option (List ℕ) → Holding S → Holding S → Type 0
