@@ -55,8 +55,8 @@ fn write_blob_group<W: fmt::Write>(group: &BlobGroup<'_>, f: &mut fmt::Formatter
     write_entries(group.entries.as_slice(), f)
 }
 
-/// A rebase blob as text: `table NAME MARKS` for a group (a 1 marks a key column), then a line for each of its entries:
-/// what the remote change was (`delete`, or `change` for an INSERT or an UPDATE), how its conflict was answered (`omit` or
+/// A rebase blob as text: `table NAME MARKS` for a group (a 1 marks a key column), then a line for each of its entries.
+/// The line names the remote change (`delete`, or `change` for an INSERT or an UPDATE), the conflict's answer (`omit` or
 /// `replace`), and the fields. Each line ends by a line feed. The records stay in their bytes.
 #[derive(Clone, Copy)]
 pub struct BlobText<'a, 'b>(pub &'a [BlobGroup<'b>]);

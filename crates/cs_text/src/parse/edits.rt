@@ -10,7 +10,7 @@ use cs_value::{Catalog, Edit, Field, Items, Memory, Text, Value};
 use std::alloc::Global;
 
 /// The edit that the words that are left spell, if they spell one: `insert T VALUES`, `update T FIELDS` or `delete T KEYVALUES`. Of the
-/// fields of an update those at key columns of the table are the key, so `-` spells nothing there; of a table that isn't in the catalog no
+/// fields of an update those at key columns of the table are the key, so `-` spells nothing there. Of a table that isn't in the catalog no
 /// column is a key column. The widths aren't tested.
 pub fn read_edit(
     alloc: Global,
