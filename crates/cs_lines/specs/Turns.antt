@@ -10,8 +10,8 @@ use Rattle.cs_lines.specs.Reading.{StaysInLine, TakesLine}
 use Rattle.cs_lines.specs.Served.{Answers}
 use Rattle.cs_lines.specs.Writing.{AppendsFront}
 
--- a line was taken and answered, and its answer written, or a front of it where the writer failed; at the input's end
--- and where the reader failed nothing happened but that a part of the line is gone
+-- a line was taken and answered, and its answer written, or a front of it where the writer failed. At the input's end
+-- nothing happened. Where the reader failed a part of the line is gone, and nothing else happened
 abbrev pub TakesTurn : {State : Type 0} → Result Turn Stop → (State → List ℕ → List ℕ → State → Type 0) → (State → State → Type 0)
     → State → State → Option (List ℕ) → Option (List ℕ) → Option (List ℕ) → Option (List ℕ) → Type 0
 TakesTurn (Ok Answered) serves stays old new input rest before after =

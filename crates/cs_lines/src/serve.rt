@@ -49,8 +49,8 @@ pub(crate) enum Turn {
     Ended,
 }
 
-/// Answers each line of the reader, up to its end, by a line of lower case hex, and sends each
-/// answer before it reads on (as runs show; no clause says when).
+/// Answers each line of the reader, up to its end, by a line of lower case hex. It sends each answer before it reads on
+/// (as runs show; no clause says when).
 ///
 /// A line of hex digits of either case is a request, the empty line the empty one. A line that is
 /// no hex is answered `1316`. A line for which memory runs out is answered `1301`, and the server
