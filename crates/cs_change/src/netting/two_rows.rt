@@ -46,9 +46,9 @@ impl NetChange {
     }
 }
 
-/// The net change of two rows of one key, or none: none and a row give its INSERT, a row and none its DELETE, two rows
-/// that differ the UPDATE of the columns that differ, and equal sides nothing. It is not indirect. (Profile of this
-/// project over SQLite's "Session Extension", what a session records.)
+/// The net change of two rows of one key, or none. None and a row give its INSERT, a row and none its DELETE. Two rows
+/// that differ give the UPDATE of the columns that differ, and equal sides nothing. It is not indirect. (Profile of
+/// this project over SQLite's "Session Extension", what a session records.)
 pub fn net(
     alloc: Global,
     table: &TableDef,
