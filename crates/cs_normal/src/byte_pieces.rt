@@ -9,8 +9,8 @@ use std::alloc::Global;
 use std::marker::Model;
 use std::mem;
 
-/// How many bytes a piece has at most, but for one that begins with longer ones: 1 MiB. One list of all bytes, where there are more
-/// than 32 MiB, would be longer than any that the C library (glibc) keeps for the next call, and have fresh pages each time.
+/// How many bytes a piece has at most, but for one that begins with longer ones: 1 MiB. One list of more than 32 MiB would be
+/// longer than any that the C library (glibc) keeps for the next call. It would have fresh pages each time.
 const PIECE: usize = 0x10_0000;
 
 /// Bytes in pieces, of which the last one grows, for a result that is long and goes to somebody else's memory in the end. Contracts see
@@ -85,8 +85,8 @@ impl BytePieces {
         Ok(())
     }
 
-    /// Writes the bytes to the front of the slice where they have room there, and answers how many they are; where they have none,
-    /// nothing is written. They are copied once; the memory is for where each piece stands. An `Err` changes nothing.
+    /// Writes the bytes to the front of the slice where they have room there, else nothing, and answers how many they are. They
+    /// are copied once; the memory is for where each piece stands. An `Err` changes nothing.
     pub fn put_to_front(&self, alloc: Global, out: &mut [u8]) -> Result<usize, Memory>
         ensures len { IfOk result (λ len. len ≡ length self.now) }
         ensures room { IfOk result (λ len. len ≤ length out.old → out.new ≡ self.now ++ drop len out.old) }

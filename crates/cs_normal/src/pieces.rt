@@ -1,5 +1,5 @@
-//! Bytes that stand in pieces, put into memory that is lent: the spelling of a changeset in normal form, table by table, or bytes in
-//! pieces of their own.
+//! Bytes that stand in pieces, put into memory that is lent. They are the spelling of a changeset in normal form, table by table, or
+//! bytes in pieces of their own.
 
 ghost use Rattle.std.specs.Prelude.{◌≡◌, ◌++◌, ◌≤◌, ◌<◌, length, drop, IfOk, IfErr, IfSome};
 ghost use Rattle.cs_normal.specs.Normal.{normal_spelling};

@@ -87,8 +87,8 @@ abbrev pub AreKeyed : List Bool → List Change → Type 0
 AreKeyed marks changes =
     (list_all (has_key marks) changes ≡ true) × IsDistinct same_bytes (map (change_bytes marks) changes)
 
--- these are the changes as read in normal form: each of those has a key of its own; in the order of the keys' bytes
--- there stands behind a key the normal form of the change that was read with it, and nothing else
+-- these are the changes as read in normal form, of which each has a key of its own. In the order of the keys' bytes
+-- there stands behind a key the normal form of the change read with it, and nothing else
 pub record IsNormalOf (marks : List Bool) (changes : List Change) (form : Changes) : Type 0 where
   pub keyed : AreKeyed marks changes
   pub ordered : IsOrdered form

@@ -187,7 +187,7 @@ impl KeysBuilder {
         put_behind(&mut self.bytes, &mut self.spots, front, marks, fields)
     }
 
-    /// Appends these bytes and behind them the bytes of the key of a change, as one key, and tells whether none of the key's
+    /// Appends these bytes and behind them the bytes of the key of a change, as one key. It tells whether none of the key's
     /// values is NULL. An `Err` leaves no key.
     #[inline(always)]
     pub fn push_of_behind(

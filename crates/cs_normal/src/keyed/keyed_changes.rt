@@ -178,7 +178,7 @@ impl KeyedChanges {
         self.changes.replace_update(index, flag, old, new);
     }
 
-    /// Makes a DELETE of the INSERT at the index, and an INSERT of the DELETE, of the same row and with the same flag; an
+    /// Makes a DELETE of the INSERT at the index, and an INSERT of the DELETE, of the same row and with the same flag. An
     /// UPDATE and the keys stay. It takes no memory.
     #[inline(always)]
     pub fn turn_at(&mut self, index: usize)

@@ -36,7 +36,7 @@ pub fn lend_record_key<'a>(marks: &[bool], fields: &Record<'a>) -> Option<&'a [u
     Some(key)
 }
 
-/// The bytes of a change's key, lent where its key columns are the first ones and are defined, which is nearly always; else
+/// The bytes of a change's key, lent where its key columns are the first ones and are defined, which is nearly always. Else
 /// `None`, and `put_key` puts them together. Marks behind the last key column are to be left out (`key_front`).
 #[inline(always)]
 pub fn lend_key<'a>(marks: &[bool], change: &Change<'a>) -> Option<&'a [u8]>

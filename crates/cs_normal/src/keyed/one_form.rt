@@ -203,8 +203,8 @@ pub(crate) fn push_form(
     push_made(marks, change, scratch, out)
 }
 
-/// The normal form of a change, if one is left: the change itself, in the same bytes, where it is in normal form already;
-/// else it is made in the room, in place of what is there.
+/// The normal form of a change, if one is left. It is the change itself, in the same bytes, where that is in normal form
+/// already. Else it is made in the room, in place of what is there.
 #[inline(always)]
 pub fn lend_form<'a>(
     marks: &[bool],
