@@ -1,4 +1,4 @@
--- What a change says that stood at its place: a row of the table with the same key, or none; and that a change that leads has a key.
+-- What a change says that stood at its place: a row of the table with the same key, or none. A change that leads has a key.
 use Rattle.std.proofs.Common.{◌≡◌, ◌∙◌, ℕ, Bool, true, false, List, [], ◌∷◌, Some, None, arith, length, refl, ap, subst, sym}
 use Rattle.std.specs.Prelude.{Contains}
 use Rattle.std.specs.List.{list_all}

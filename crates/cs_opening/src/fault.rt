@@ -14,7 +14,7 @@ pub enum OpenFault {
     /// Memory was refused. It may come before any other fault.
     #[error("Memory")]
     Memory = 1,
-    /// What the store holds is no replica of these tables: whose it is can't be read, or it is this replica's, and is at no
+    /// What the store holds is no replica of these tables. Whose it is can't be read, or it is this replica's and is at no
     /// position.
     #[error("Damaged")]
     Damaged = 2,

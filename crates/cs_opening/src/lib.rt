@@ -1,8 +1,8 @@
-//! Opening a replica over a store. `open_at` opens any store: one that holds nothing is laid out, in one commit, and any other is only
-//! read, and opened exactly where all that it holds is that of this replica at one position: its values, its rows, its pending
-//! changes, each the net change to the row at its place, and the push under way. Where it isn't, the fault says whether the
-//! store is another's or damaged. The crate stands on positions (`cs_pending::position`), pending changes (`cs_pending`) and stores
-//! (`cs_store`). `laws` says that what a store held has one position or one fault.
+//! Opening a replica over a store. `open_at` opens any store. One that holds nothing is laid out, in one commit. Any other is only
+//! read, and opened exactly where all that it holds is that of this replica at one position. All that is the values, the rows, the
+//! pending changes, each the net change to the row at its place, and the push under way. Where it holds anything else, the fault says
+//! whether the store is another's or damaged. The crate stands on positions (`cs_pending::position`), pending changes (`cs_pending`)
+//! and stores (`cs_store`). `laws` says that what a store held has one position or one fault.
 //! `moving` opens also a store of an older form, and `copying` serves it.
 //! Its tests stand in `cs_replica_tests`.
 //! What names no section of SQLite's documentation is profile of this project.

@@ -43,8 +43,8 @@ fn holds_places<S: RowStore>(store: &mut S, catalog: &Catalog) -> Result<bool, S
     Ok(whole)
 }
 
-/// How many changes are pending, if all that a store holds is what its place says, and the pending changes and the push under way
-/// lead to the rows.
+/// How many changes are pending, if a store is sound. It is sound where all that it holds is what its place says, and pending
+/// changes and the push under way lead to the rows.
 fn count_sound<S: RowStore>(
     alloc: Global,
     store: &mut S,
@@ -146,13 +146,13 @@ fn open_there<S: RowStore>(
 }
 
 /// Opens a store for the replica with this id and these tables, and answers its position. A store that holds nothing is laid out, in
-/// one commit, and its position is the first; any other is only read, and opened where all that it holds is that of this
-/// replica at one position. Each row is read once, and again where a change of it is pending or under way.
+/// one commit, and its position is the first. Any other is only read. It is opened where all that it holds is that of this replica
+/// at one position. Each row is read once, and again where a change of it is pending or under way.
 ///
 /// # Errors
 ///
-/// `Damaged` where the value `id` or `catalog` can't be read; then `Mismatch` where they are those of another replica or of none;
-/// then `Damaged` where the store shows this replica at no position. `Device` where a call of the store failed, and `Memory`:
+/// `Damaged` where the value `id` or `catalog` can't be read. Then `Mismatch` where they are those of another replica or of none.
+/// Then `Damaged` where the store shows this replica at no position. `Device` where a call of the store failed, and `Memory`:
 /// both may come before. Nothing has changed then.
 pub fn open_at<S: RowStore>(
     alloc: Global,

@@ -85,7 +85,7 @@ fn position_of(
     }))
 }
 
-/// Where the values of a store say that the replica with this id and these tables stands, but for how many changes are pending; none
+/// Where the values of a store say that the replica with this id and these tables stands, but for how many changes are pending. None
 /// where they say no such thing.
 pub(crate) fn read_position<S: RowStore>(
     alloc: Global,

@@ -87,8 +87,8 @@ fn changes_of(body: Body) -> Normal
     }
 }
 
-/// The changes of the push with this number that these bytes are, if they are those of one: the number in eight bytes, and a
-/// changeset of the tables in normal form of at most `MAX_CHANGESET` bytes.
+/// The changes of the push with this number that these bytes are, if they are those of one. Such bytes are the number in eight,
+/// and a changeset of the tables in normal form of at most `MAX_CHANGESET` bytes.
 pub(crate) fn flight_in(
     alloc: Global,
     catalog: &Catalog,

@@ -71,8 +71,7 @@ NeverMoves tables id old =
     (changes : List TableChanges) (position : Position) → KeepsValue tables old changes
     → StandsAt tables id (moved tables changes old) position → ⊥
 
--- what is told of contents that can't be opened: what is told of them as they are; and where this is Damaged, no value that is moved mends
--- it
+-- what is told of contents that can't be opened: what is told of them as they are. Where this is Damaged, no value that is moved mends it
 abbrev pub IsStoreFault : List TableDef → ℕ → Contents → OpenFault → Type 0
 IsStoreFault tables id old Memory = Unit {0}
 IsStoreFault tables id old Damaged = IsOpenFault tables id old Damaged × NeverMoves tables id old

@@ -201,7 +201,7 @@ fn copy_tables<S: RowStore>(
     }
 }
 
-/// A copy in memory of a store, where that holds rows of the catalog's tables and values by name alone; none where it holds
+/// A copy in memory of a store, where that holds rows of the catalog's tables and values by name alone. None where it holds
 /// anything else. The store is only read: each table and each value once.
 pub fn copy_of<S: RowStore>(
     alloc: Global,

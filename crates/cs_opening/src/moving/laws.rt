@@ -2,8 +2,8 @@
 
 ghost use Rattle.cs_opening.specs.moving.Laws.{NoStoreFaultWhereOpened, OneStoreFault, OneStoreOpening, OneValue, StoreOpensOrFails};
 
-/// What a store held is opened at one position, or has one fault, and never both, and there is one of the two; and a store keeps one
-/// value of what is pending.
+/// What a store held is opened at one position or has one fault. There is one of the two, and never both. A store keeps one value of
+/// what is pending.
 pub fn store_openings()
     ensures value { OneValue }
     ensures one { OneStoreOpening }

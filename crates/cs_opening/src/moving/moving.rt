@@ -12,10 +12,10 @@ use cs_store::RowStore;
 use cs_value::Catalog;
 use std::alloc::Global;
 
-/// Opens a store for the replica with this id and these tables, and answers its position, as `crate::open_at` does: a store
-/// that holds nothing is laid out, in one commit. Where the store keeps what is pending as one value, `pending`, a changeset of
-/// the tables in normal form, and no change at a place, and would show this replica with each change at its place, the value is
-/// moved there, in one commit. Any other store is only read.
+/// Opens a store for the replica with this id and these tables, and answers its position, as `crate::open_at` does. A store that
+/// holds nothing is laid out, in one commit. A store may keep what is pending as one value, `pending`, a changeset of the tables
+/// in normal form, and no change at a place. If it would show this replica with each change at its place, the value is moved
+/// there, in one commit. Any other store is only read.
 ///
 /// # Errors
 ///
