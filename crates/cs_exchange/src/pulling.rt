@@ -2,7 +2,7 @@
 //! merged into its rows (`taking`), in one commit. `take_entries` takes those of an answer one after another, straight from its
 //! bytes, and tells how many it took and why it ended. `take_merged` takes what entries up to a later version do together, as one
 //! changeset, in one commit, and `take_told` the same from its bytes. `laws` says that an entry that is pulled leads to the log's next
-//! rows, and that an entry, a list and a changeset have one result, and have one.
+//! rows. It says also that an entry, a list and a changeset have a result, and only one.
 //! It stands on taken entries (`taking`), pushes (`pushing`) and messages (`cs_wire`).
 //! Its tests stand in `cs_replica_tests`.
 

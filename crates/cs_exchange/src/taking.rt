@@ -1,8 +1,8 @@
 //! A replica takes another's entry of the log: the three-way merge, row by row. `take_changes` judges the entry on the log's rows before
-//! it asks anything, asks a picker at each change that conflicts with the own row, and makes one commit: the own rows become the
-//! merged ones, what was under way becomes pending, and what is pending at each of these places is the net change from what the
-//! entry leaves there to the own row. Entries may be long: their places are gone through in loops. `take_changes_to` takes changes that
-//! lead to a later version than the next: what entries do together.
+//! it asks anything. It asks a picker at each change that conflicts with the own row, and makes one commit. The own rows become the
+//! merged ones, and what was under way becomes pending. What is pending at each of these places is the net change from what the entry
+//! leaves there to the own row. Entries may be long: their places are gone through in loops. `take_changes_to` takes changes that lead
+//! to a later version than the next: what entries do together.
 //! `flight` makes what is under way pending over the log's rows; `reading` reads the places of the entry, and tells whether each
 //! change is defined on the log's rows; `deciding` asks a picker at each change that conflicts with the own row, and merges the
 //! rows; `gathering` does all this for an entry, and `committing` commits the gathered edits.

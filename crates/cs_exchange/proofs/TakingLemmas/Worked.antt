@@ -1,4 +1,4 @@
--- The changes of an entry that is defined on the log's rows, worked through: each is merged, up to the first at which the picker stops.
+-- The changes of an entry that is defined on the log's rows, worked through. Each is merged, up to the first at which the picker stops.
 use Rattle.std.proofs.Common.{◌≡◌, ◌⊎◌, ℕ, Bool, false, List, [], ◌∷◌, Option, Some, None, refl, sym, ap, subst, ◌∙◌, inl, inr}
 use Rattle.std.proofs.lemmas.Option.{same_Some}
 use Rattle.std.specs.List.{AllByRecursion}

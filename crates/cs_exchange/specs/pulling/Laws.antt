@@ -83,8 +83,8 @@ IsOfList (Err (list.Device count)) = ⊥
 IsOfList (Err (list.BadEntry count)) = Unit {0}
 
 module _ {P : Type 0} (picks : P → Clash → Wish → P → Type 0) where
-  -- by a picker that answers each clash once, an entry that is pulled from what one store shows leaves one view at the places of the
-  -- tables, and one state of the picker
+  -- by a picker that answers each clash once, an entry that is pulled from what one store shows leaves one state of the picker. It
+  -- leaves one view at the places of the tables
   abbrev pub OnePull : Type 0
   OnePull =
       (tables : List TableDef) (contents : Contents) (position : Position) (entry : LogEntry) (before seen some other : View) (p q r : P)
@@ -132,8 +132,8 @@ module _ {P : Type 0} (picks : P → Clash → Wish → P → Type 0) where
       → IsPullFault picks tables position position.version entry before p r fault
       → ⊥
 
-  -- there is one or the other: an entry that is told at an index is pulled, there is a store that holds what is left, and the picker may
-  -- be asked again; or it has a fault
+  -- there is one or the other: an entry that is told at an index is pulled, or it has a fault. Where it is pulled, there is a store that
+  -- holds what is left, and the picker may be asked again
   abbrev pub PulledOrRefused : (P → Type 0) → Type 0
   PulledOrRefused is_ready =
       (tables : List TableDef) (old : Contents) (position : Position) (index : ℕ) (entry : LogEntry) (before : View) (p : P)
@@ -168,8 +168,8 @@ module _ {P : Type 0} (picks : P → Clash → Wish → P → Type 0) where
       → IsMergeFault picks tables position position.version next changes before p r fault
       → ⊥
 
-  -- there is one or the other: they are taken, there is a store that holds what is left, and the picker may be asked again; or they have a
-  -- fault
+  -- there is one or the other: they are taken, or they have a fault. Where they are taken, there is a store that holds what is left, and
+  -- the picker may be asked again
   abbrev pub MergedOrRefused : (P → Type 0) → Type 0
   MergedOrRefused is_ready =
       (tables : List TableDef) (old : Contents) (position : Position) (first next : ℕ) (changes : List TableChanges) (before : View) (p : P)
@@ -181,8 +181,8 @@ module _ {P : Type 0} (picks : P → Clash → Wish → P → Type 0) where
       → ((new : Contents) × (q : P) × (first ≡ position.version) × (first < next) × IsTakenTo picks tables position next changes p q old new × is_ready q)
       ⊎ ((fault : PullFault) × (q : P) × IsOfEntry fault × IsMergeFault picks tables position first next changes before p q fault)
 
-  -- by a picker that answers each clash once, bytes that are told to lead to a version have one result, and leave one position, one thing
-  -- in the store, and one state of the picker, whichever view of the store is meant
+  -- by a picker that answers each clash once, bytes that are told to lead to a version have one result. They leave one position, one
+  -- thing in the store, and one state of the picker, whichever view of the store is meant
   abbrev pub OneTold : Type 0
   OneTold =
       (tables : List TableDef) (next : ℕ) (bytes : List ℕ) (old new last : Contents) (position here there : Position) (before seen : View)
@@ -197,7 +197,7 @@ module _ {P : Type 0} (picks : P → Clash → Wish → P → Type 0) where
       → TakesTold picks tables next bytes other position seen p there last r
       → (some ≡ other) × (here ≡ there) × (new ≡ last) × (q ≡ r)
 
-  -- and there is one: what is told to lead to a version above the position's has a result, and there is a store that holds what is left
+  -- and there is one: what is told to lead to a version above the position's has a result. There is a store that holds what is left
   abbrev pub ToldHasResult : (P → Type 0) → Type 0
   ToldHasResult is_ready =
       (tables : List TableDef) (next : ℕ) (bytes : List ℕ) (old : Contents) (position : Position) (before : View) (p : P)
@@ -210,7 +210,7 @@ module _ {P : Type 0} (picks : P → Clash → Wish → P → Type 0) where
       → (result : Result Pulled AnswerFault) × (other : Position) × (new : Contents) × (q : P) × IsOfList result
       × TakesTold picks tables next bytes result position before p other new q
 
-  -- by a picker that answers each clash once, a list has one result, and leaves one position, one thing in the store, and one state of
+  -- by a picker that answers each clash once, a list has one result. It leaves one position, one thing in the store, and one state of
   -- the picker, whichever view of the store is meant
   abbrev pub OneList : Type 0
   OneList =

@@ -33,7 +33,7 @@ count_of (Err (fault.Device count)) = count
 count_of (Err (fault.BadEntry count)) = count
 
 module _ {P : Type 0} (picks : P → Clash → Wish → P → Type 0) (tables : List TableDef) (first : ℕ) (entries : List ToldEntry) where
-  -- so many entries are pulled one after another, each the one that the list tells at the version then, and what each leaves a store
+  -- so many entries are pulled one after another, each the one that the list tells at the version then. What each leaves a store
   -- shows behind it
   unfoldable pub PullsMany : ℕ → Position → View → P → Position → View → P → Type 0
   PullsMany zero position view p other end q = (other ≡ position) × (end ≡ view) × (q ≡ p)

@@ -46,8 +46,8 @@ module _ {P : Type 0} (picks : P → Clash → Wish → P → Type 0) (tables : 
   abbrev pub Stays : Position → View → Position → Contents → Type 0
   Stays position before other new = (other ≡ position) × ShowsAt tables new position before
 
-  -- what became of bytes that are told to lead to a version, above the position's: their changeset was taken; the picker stopped; or they
-  -- spell none that is defined on the log's rows, and nobody was asked
+  -- what became of bytes that are told to lead to a version, above the position's. Their changeset was taken, or the picker stopped. Or
+  -- they spell none that is defined on the log's rows, and nobody was asked
   abbrev pub TakesTold : Result Pulled AnswerFault → Position → View → P → Position → Contents → P → Type 0
   TakesTold (Ok (Taken count)) position before p other new q =
       (position.version + count ≡ next) × (changes : List TableChanges) × (after : View)

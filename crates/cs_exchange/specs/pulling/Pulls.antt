@@ -29,8 +29,8 @@ IsBad tables position entry view =
     ⊎ ((IsOwn position entry → ⊥) × (IsDefinedOn tables (entry_changes entry) (base position.flight view) → ⊥))
 
 module _ {P : Type 0} (picks : P → Clash → Wish → P → Type 0) where
-  -- an entry is pulled, where there is a version behind this one: of the own push the rows stay, and what is pending, and nobody is
-  -- asked; another's is taken
+  -- an entry is pulled, where there is a version behind this one. Of the own push the rows stay, and what is pending, and nobody is
+  -- asked. Another's is taken
   abbrev pub PullsOne : List TableDef → Position → LogEntry → View → P → View → P → Type 0
   PullsOne tables position entry before p after q =
       (position.version < 2 ^ 64 - 1)

@@ -16,7 +16,7 @@ pub record IsFormOf (tables : List TableDef) (bytes : List ℕ) (changes : List 
   pub spelled : bytes ≡ changeset_spelling groups
   pub form : IsNormalFormOf tables groups changes
 
--- it is of the kind that is told, has the origin and the number that are told, and its changes are the normal form of the changeset
+-- it is of the kind that is told, and has the origin and the number that are told. Its changes are the normal form of the changeset
 -- that is told
 pub record IsReadAs (tables : List TableDef) (told : ToldEntry) (entry : LogEntry) : Type 0 where
   pub kind : told.kind ≡ kind_of entry.body

@@ -64,8 +64,8 @@ module _ {P : Type 0} (picks : P → Clash → Wish → P → Type 0) where
       → picks p clash other r
       → (some ≡ other) × (q ≡ r)
 
-  -- by such a picker an entry, taken from what one store shows, leaves one view at the places of the tables, and one state of the
-  -- picker. Where the picker isn't asked, any wish serves, and they leave the same
+  -- by such a picker an entry that is taken from what one store shows leaves one state of the picker. It leaves one view at the
+  -- places of the tables. Where the picker isn't asked, any wish serves, and they leave the same
   abbrev pub OneTaken : Type 0
   OneTaken =
       (tables : List TableDef) (contents : Contents) (position : Position) (entry : List TableChanges)
@@ -129,8 +129,8 @@ module _ {P : Type 0} (picks : P → Clash → Wish → P → Type 0) where
       → is_ready p
       → (wish : Wish) × (q : P) × picks p clash wish q × is_ready q × IsLawfulWish wish clash.conflict.kind clash.covers
 
-  -- there is one: an entry that is defined on the log's rows of a view that is shown is taken, after which the picker may be asked, or
-  -- it stops there
+  -- there is one: an entry that is defined on the log's rows of a view that is shown is taken, or the picker stops there. Where it is
+  -- taken, the picker may be asked again
   abbrev pub TakenOrStopped : (P → Type 0) → Type 0
   TakenOrStopped is_ready =
       (tables : List TableDef) (contents : Contents) (position : Position) (entry : List TableChanges) (before : View) (p : P)
@@ -166,7 +166,7 @@ taking_wish KeyConflict = Take
 abbrev pub always_takes : Unit {0} → Clash → Wish → Unit {0} → Type 0
 always_takes p clash wish q = wish ≡ taking_wish clash.conflict.kind
 
--- such a picker is one of those that the laws speak of, and by it each entry that is defined on the log's rows is taken
+-- such a picker is one of those that the laws speak of. By it each entry that is defined on the log's rows is taken
 pub record TakerTakes : Type 0 where
   pub once : PicksOnce always_takes
   pub lawful : AnswersLawfully always_takes (λ p. Unit {0})

@@ -26,8 +26,8 @@ use Rattle.cs_pending.specs.declared.position.position.Position.{Position}
 use Rattle.cs_exchange.specs.declared.taking.fault.TakeFault.{TakeFault}
 use Rattle.cs_exchange.specs.declared.taking.fault.TakeFault.TheVariants.{Memory, BadEntry, Stopped, Device}
 
--- the clash shows the other's change, its conflict with the own row, and the own change: the net change from the log's row to it,
--- not indirect
+-- the clash shows the other's change, its conflict with the own row, and the own change. That is the net change from the log's
+-- row to the own one, not indirect
 pub record IsClashOf (task : Task) (log own : Place) (clash : Clash) : Type 0 where
   pub of_conflict : IsConflictOf task.table task.change own clash.conflict
   pub of_local : with_flag_any false (net task.marks log own) ≡ Some clash.local
@@ -36,8 +36,8 @@ pub record IsClashOf (task : Task) (log own : Place) (clash : Clash) : Type 0 wh
 abbrev pub is_touched : Option (List TableChanges) → List TableChanges → List ℕ → List ℕ → Bool
 is_touched flight entry name key = is_some (change_of name key entry) || is_some (change_of name key (flown flight))
 
--- where the entry or what was under way has a change, what is pending is the net change from the log's row to the own one, not
--- indirect; elsewhere it is what it was
+-- the net change from the log's row to the own one is pending where the entry or what was under way has a change. It isn't
+-- indirect. Elsewhere what is pending is what it was
 pub record IsPendingOver (tables : List TableDef) (flight : Option (List TableChanges)) (entry : List TableChanges) (before after : View) : Type 0 where
   pub touched : (table : TableDef) (key : List ℕ) → Contains tables table → is_touched flight entry table.name key ≡ true
       → after.pending table.name key ≡ direct_net table (middle after table.name key) (after.tables table.name key)
@@ -83,8 +83,8 @@ module _ {P : Type 0} (picks : P → Clash → Wish → P → Type 0) where
     pub defined : IsDefinedOn tables entry (base flight before)
     pub stops : StopsAt (base flight before) before.tables (tasks tables (groups_of entry)) p conflict q
 
-  -- another's entry was taken: the log's rows are now what it leaves of them, and at each of its places the own row is the
-  -- three-way merge
+  -- another's entry was taken: the log's rows are now what it leaves of them. At each of its places the own row is the three-way
+  -- merge
   pub record IsTaken (tables : List TableDef) (flight : Option (List TableChanges)) (entry : List TableChanges) (before after : View) (p q : P) : Type 0 where
     pub takes : TakeAll (base flight before) before.tables (middle after) after.tables (tasks tables (groups_of entry)) p q
     pub applied : IsApplied tables entry (base flight before) (middle after)

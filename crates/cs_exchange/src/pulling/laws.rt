@@ -42,8 +42,8 @@ pub fn pulled_leads<P: Picker>(_picker: &P)
     cs_normal::laws::net_is_applied();
 }
 
-/// Where a picker has one answer to each clash, an entry that is pulled from what one store shows leaves one view and one state of the
-/// picker; and that store then holds one thing.
+/// Where a picker has one answer to each clash, an entry that is pulled from what one store shows leaves one view. It leaves one state
+/// of the picker, and that store then holds one thing.
 pub fn one_pull<P: Picker>()
     ensures view { OnePull P.picks }
     ensures contents { OnePullIn P.picks }
@@ -53,7 +53,7 @@ pub fn one_pull<P: Picker>()
     crate::taking::laws::one_contents();
 }
 
-/// Where a picker has one answer to each clash, an entry that is told at an index has one fault, and one that is pulled has none.
+/// Where a picker has one answer to each clash, an entry that is told at an index has one fault. One that is pulled has none.
 pub fn one_pull_fault<P: Picker>()
     ensures one { OnePullFault P.picks }
     ensures pulled { NoPullFaultWherePulled P.picks }
@@ -63,8 +63,8 @@ pub fn one_pull_fault<P: Picker>()
     crate::taking::laws::bad_is_neither::<P>();
 }
 
-/// Where a picker has a lawful answer to each clash, each entry that is told at an index is pulled, and there is a store that holds what
-/// is left, or it has a fault.
+/// Where a picker has a lawful answer to each clash, each entry that is told at an index is pulled or has a fault. Where it is pulled,
+/// there is a store that holds what is left.
 pub fn pulled_or_refused<P: Picker>()
     ensures { PulledOrRefused P.picks P.is_ready }
 {
@@ -76,7 +76,7 @@ pub fn pulled_or_refused<P: Picker>()
     crate::taking::laws::taken_or_stopped::<P>();
 }
 
-/// Where a picker has one answer to each clash, a list of entries has one result, and leaves one position, one thing in the store, and
+/// Where a picker has one answer to each clash, a list of entries has one result. It leaves one position, one thing in the store, and
 /// one state of the picker.
 pub fn one_list<P: Picker>()
     ensures { OneList P.picks }
@@ -90,7 +90,7 @@ pub fn one_list<P: Picker>()
     crate::taking::laws::bad_is_neither::<P>();
 }
 
-/// Where a picker has a lawful answer to each clash, a list of entries in bytes has a result, and there is a store that holds what is left.
+/// Where a picker has a lawful answer to each clash, a list of entries in bytes has a result. There is a store that holds what is left.
 pub fn list_has_result<P: Picker>()
     ensures { ListHasResult P.picks P.is_ready }
 {
@@ -109,8 +109,8 @@ pub fn one_merge_fault<P: Picker>()
     crate::taking::laws::bad_is_neither::<P>();
 }
 
-/// Where a picker has a lawful answer to each clash, entries that are told at once are taken, and there is a store that holds what is
-/// left, or they have a fault.
+/// Where a picker has a lawful answer to each clash, entries that are told at once are taken or have a fault. Where they are taken,
+/// there is a store that holds what is left.
 pub fn merged_or_refused<P: Picker>()
     ensures { MergedOrRefused P.picks P.is_ready }
 {
@@ -118,8 +118,8 @@ pub fn merged_or_refused<P: Picker>()
     crate::taking::laws::taken_or_stopped::<P>();
 }
 
-/// Where a picker has one answer to each clash, bytes that are told to lead to a version have one result, and leave one position, one
-/// thing in the store, and one state of the picker.
+/// Where a picker has one answer to each clash, bytes that are told to lead to a version have one result. They leave one position,
+/// one thing in the store, and one state of the picker.
 pub fn one_told<P: Picker>()
     ensures { OneTold P.picks }
 {
@@ -132,8 +132,8 @@ pub fn one_told<P: Picker>()
     crate::taking::laws::bad_is_neither::<P>();
 }
 
-/// Where a picker has a lawful answer to each clash, bytes that are told to lead to a version above the position's have a result, and
-/// there is a store that holds what is left.
+/// Where a picker has a lawful answer to each clash, bytes that are told to lead to a version above the position's have a result.
+/// There is a store that holds what is left.
 pub fn told_has_result<P: Picker>()
     ensures { ToldHasResult P.picks P.is_ready }
 {

@@ -77,8 +77,8 @@ fn ended(fault: PullFault, count: u64) -> Result<Pulled, AnswerFault>
 }
 
 /// Pulls the entries of an answer, of which the first is the hub's at `first`, one after another, each in a commit of its own. Those
-/// before the position's version are passed over unread; the list ends where the picker stops, and at an entry that is behind
-/// the one at the version. What was taken stays, whatever comes later.
+/// before the position's version are passed over unread. The list ends where the picker stops, and at an entry that is behind the
+/// one at the version. What was taken stays, whatever comes later.
 ///
 /// # Errors
 ///

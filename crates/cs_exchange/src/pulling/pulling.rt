@@ -91,7 +91,7 @@ pub(crate) fn take_next<S: RowStore, P: Picker>(
     }
 }
 
-/// Pulls the entry of the hub's log that is told at an index: where it is the push that is under way, that is confirmed; another's
+/// Pulls the entry of the hub's log that is told at an index. Where it is the push that is under way, that is confirmed. Another's
 /// is taken, by the three-way merge (`crate::taking::take_changes`). It is one commit. The first fault that holds is told: `Behind`,
 /// `Gap`, `BadEntry`, `Stopped`.
 pub fn take_entry<S: RowStore, P: Picker>(

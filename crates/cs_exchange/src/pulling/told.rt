@@ -51,7 +51,7 @@ pub(crate) fn read_form(
     }
 }
 
-/// The entry of the log that an answer's entry is: its changeset is read, and brought into normal form by the tables; none where
+/// The entry of the log that an answer's entry is. Its changeset is read, and brought into normal form by the tables. None where
 /// either can't be, or where there is no such kind of entry.
 pub(crate) fn read_told(
     alloc: Global,

@@ -20,8 +20,8 @@ pub enum PushFault {
     /// A push is under way.
     #[error("InFlight")]
     InFlight = 3,
-    /// The device that keeps the store failed, or what the store holds as pending is no change of its table, and its count of
-    /// failures rose.
+    /// The device that keeps the store failed, or what the store holds as pending is no change of its table. The device's count
+    /// of failures rose.
     #[error("Device")]
     Device = 4,
     /// The last push had the last number that a push may have.

@@ -12,7 +12,7 @@ pub fn one_push()
     cs_pending::outgoing::laws::one_pending();
 }
 
-/// A push of a replica that some contents show can be made, or has a fault that isn't want of memory or a device that fails.
+/// A push of a replica that some contents show can be made or has a fault, which isn't want of memory or a failed device.
 pub fn made_or_push_fault()
     ensures { MadeOrPushFault }
 {

@@ -22,8 +22,8 @@ pub enum TakeFault {
     /// At this conflict the picker wished to stop; it is the first at which it did.
     #[error("Stopped")]
     Stopped(ConflictBuf),
-    /// The device that keeps the store failed, or what the store holds at a place of the entry or of the push that is under way
-    /// is no row or no change of the table, and its count of failures rose.
+    /// The device that keeps the store failed, or what the store holds at a place is no row or no change of the table. The place
+    /// is one of the entry or of the push that is under way. The device's count of failures rose.
     #[error("Device")]
     Device,
 }

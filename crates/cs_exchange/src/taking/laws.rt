@@ -9,7 +9,7 @@ pub fn one_clash()
     ensures { OneClash }
 {}
 
-/// What shows one view at one position holds one thing, and shows one state of the log's rows there; and what a store shows can be
+/// What shows one view at one position holds one thing, and shows one state of the log's rows there. What a store shows can be
 /// shown at another version.
 pub fn one_contents()
     ensures contents { OneContents }
@@ -19,8 +19,8 @@ pub fn one_contents()
     cs_pending::laws::one_view();
 }
 
-/// Where a picker has one answer to each clash, an entry that is taken from what one store shows leaves one view and one state of the
-/// picker; and that store then holds one thing.
+/// Where a picker has one answer to each clash, an entry that is taken from what one store shows leaves one view. It leaves one state
+/// of the picker, and that store then holds one thing.
 pub fn one_taken<P: Picker>()
     ensures view { OneTaken P.picks }
     ensures contents { OneTakenIn P.picks }
@@ -50,8 +50,8 @@ pub fn bad_is_neither<P: Picker>()
     cs_normal::laws::defined_is_applied();
 }
 
-/// Where a picker has a lawful answer to each clash, each entry that is defined on the log's rows is taken, or stopped at; and there
-/// is a store that holds what is left.
+/// Where a picker has a lawful answer to each clash, each entry that is defined on the log's rows is taken, or stopped at. Where it
+/// is taken, there is a store that holds what is left.
 pub fn taken_or_stopped<P: Picker>()
     ensures view { TakenOrStopped P.picks P.is_ready }
     ensures contents { TakenInOrStopped P.picks P.is_ready }
@@ -71,7 +71,7 @@ pub fn taken_or_stopped<P: Picker>()
     cs_pending::laws::one_view();
 }
 
-/// A picker that takes where it can is one of those that the laws speak of, and takes each entry that is defined on the log's rows.
+/// A picker that takes where it can is one of those that the laws speak of. It takes each entry that is defined on the log's rows.
 pub fn taker_takes()
     ensures { TakerTakes }
 {

@@ -65,12 +65,12 @@ fn take_at<S: RowStore, P: Picker>(
     }
 }
 
-/// Takes changes that lead from the log's rows at the position's version to those at another, above it: what one entry of another's
-/// does, or what several do that were taken together. At each of their places the own row becomes the three-way merge of the log's row,
-/// the own one and what the changes leave, by the picker's wishes, which is asked once at each change that conflicts with the own row,
-/// in their order. At their places and those of the push under way, what is pending is then the net change from what they leave to the
-/// own row, not indirect; nothing is under way, and the version is the one they lead to. It is one commit; places that neither they nor
-/// the push under way name are neither read nor written.
+/// Takes changes that lead from the log's rows at the position's version to those at another, above it. They do what one entry of
+/// another's does, or what several do that were taken together. At each of their places the own row becomes the three-way merge of the
+/// log's row, the own one and what the changes leave. The picker decides by its wishes. It is asked once at each change that conflicts
+/// with the own row, in their order. At these places and those of the push under way, the net change from what the changes leave to the
+/// own row is then pending. It isn't indirect. Nothing is under way, and the version is the one they lead to. It is one commit. Places
+/// that neither they nor the push under way name are neither read nor written.
 ///
 /// # Errors
 ///
@@ -127,11 +127,11 @@ pub fn take_changes_to<S: RowStore, P: Picker>(
     Ok(())
 }
 
-/// Takes another's entry of the log, the one at the position's version: at each of its places the own row becomes the three-way merge
-/// of the log's row, the own one and what the entry leaves, by the picker's wishes, which is asked once at each change that
-/// conflicts with the own row, in the entry's order. At the places of the entry and of the push under way, what is pending is then
-/// the net change from what the entry leaves to the own row, not indirect; nothing is under way, and the version is one more. It is
-/// one commit; places that neither the entry nor the push under way names are neither read nor written.
+/// Takes another's entry of the log, the one at the position's version. At each of its places the own row becomes the three-way merge
+/// of the log's row, the own one and what the entry leaves. The picker decides by its wishes. It is asked once at each change that
+/// conflicts with the own row, in the entry's order. At these places and those of the push under way, the net change from what the
+/// entry leaves to the own row is then pending. It isn't indirect. Nothing is under way, and the version is one more. It is one
+/// commit. Places that neither the entry nor the push under way names are neither read nor written.
 ///
 /// # Errors
 ///

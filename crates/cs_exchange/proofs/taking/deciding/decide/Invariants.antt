@@ -11,7 +11,7 @@ use Rattle.cs_exchange.specs.taking.Takes.{StopsAt}
 use Rattle.cs_exchange.proofs.TakingLemmas.Decided.{DecidesOn}
 use Rattle.cs_exchange.proofs.taking.deciding.decide.Given as goal
 
--- what the places that are left lead to, all lead to; and where the picker stops at one of them, it is where it first stops
+-- what the places that are left lead to, all lead to. Where the picker stops at one of them, it first stops there
 abbrev pub invariant-loop-site : goal.invariant-loop-site
 invariant-loop-site g l = record {
   ready : g.P.Picker.is_ready l.picker;

@@ -7,7 +7,7 @@ use Rattle.cs_pending.specs.position.Shows.{base}
 use Rattle.cs_exchange.specs.taking.Steps.{AreOn, AreSitesPlaced, HasBad, site_task, task_of}
 use Rattle.cs_exchange.proofs.taking.reading.survey.Given as goal
 
--- the store was only read so far, the places before have their sites, and a bad change of those that are left is one of all
+-- the store was only read so far, and the places before have their sites. A bad change of those that are left is one of all
 abbrev pub invariant-loop-placed : goal.invariant-loop-placed
 invariant-loop-placed g l = record {
   read : WasRead g.S.RowStore (ShowsSome l.fn.catalog (g.S.RowStore.contents l.fn.store)) l.fn.store l.store;
