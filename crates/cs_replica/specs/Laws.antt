@@ -63,8 +63,8 @@ KeptStands =
     → StandsOn log position view
     → StandsOn log other next
 
--- what leaves of the log's rows what the next entry leaves of them stands on the log one version further: the own entry that is
--- confirmed, and another's that is taken
+-- what leaves of the log's rows what the next entry leaves of them stands on the log one version further. That is the own entry
+-- that is confirmed, and another's that is taken
 abbrev pub EntryStands : Type 0
 EntryStands =
     (tables : List TableDef) (log : List LogEntry) (entry : LogEntry) (position other : Position) (view next : View)
@@ -75,8 +75,8 @@ EntryStands =
     → StandsOn log position view
     → StandsOn log other next
 
--- so does a changeset that leads from the log's tables at the version to those at another, and leaves of the log's rows what it makes of
--- them: at that version
+-- so does, at another version, what leaves of the log's rows what a changeset makes of them. The changeset leads from the log's tables
+-- at this version to those at the other
 abbrev pub LeadStands : Type 0
 LeadStands =
     (tables : List TableDef) (log : List LogEntry) (next : ℕ) (changes : List TableChanges) (position other : Position) (view left : View)
@@ -119,7 +119,7 @@ IsOfAnswer (Err (Memory count)) = ⊥
 IsOfAnswer (Err (Device count)) = ⊥
 IsOfAnswer (Err (BadEntry count)) = Unit {0}
 
--- by a picker that answers each clash once, an answer of the hub has one result, and leaves one position, one thing in the store, and
+-- by a picker that answers each clash once, an answer of the hub has one result. It leaves one position, one thing in the store, and
 -- one state of the picker, whichever view of the store is meant
 abbrev pub OneAnswered : {P : Type 0} → (P → Clash → Wish → P → Type 0) → Type 0
 OneAnswered {P} picks =
@@ -141,7 +141,7 @@ IsInBytes (Short answer) = Unit {0}
 IsInBytes (Entries first entries) = AllByRecursion (λ (told : ToldEntry). AreBytes told.body) entries
 IsInBytes (Merged origin first next changeset) = AreBytes changeset
 
--- there is one, by a picker that has a lawful answer to each clash: an answer of the hub in bytes has a result, and there is a store that
+-- there is one, by a picker that has a lawful answer to each clash. An answer of the hub in bytes has a result, and there is a store that
 -- holds what is left
 abbrev pub AnswerHasResult : {P : Type 0} → (P → Clash → Wish → P → Type 0) → (P → Type 0) → Type 0
 AnswerHasResult {P} picks is_ready =

@@ -9,8 +9,8 @@ use Rattle.cs_store.specs.Contents.{Contents}
 use Rattle.cs_store.specs.declared.store.RowStore.{Ghosts}
 use Rattle.cs_value.specs.Catalog.{AreTables}
 
--- a stop leaves what the store holds; or, where nothing was written, what could be left before; or what a commit that failed would have left,
--- of the replica as it stands then
+-- a stop leaves what the store holds. Where nothing was written, it may leave what could be left before. Or it leaves what a commit that
+-- failed would have left, of the replica as it stands then
 abbrev pub CallLeaves : {S : Type 0} → Ghosts S → (Position → Contents → Contents → Type 0) → Holding S → Holding S → Type 0
 CallLeaves g failed old new =
     g.honest new.store → AreTables old.catalog → FitsPosition old.position → (view : View) → Shows g.contents old view

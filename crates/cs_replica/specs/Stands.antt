@@ -7,8 +7,7 @@ use Rattle.cs_pending.specs.View.{View}
 use Rattle.cs_pending.specs.position.Shows.{base}
 use Rattle.cs_pending.specs.declared.position.position.Position.{Position}
 
--- its version is one of the log's, and what is left where what is pending and what is under way are taken back from its rows are
--- the log's tables there
+-- its version is one of the log's. Its rows are the log's tables there, once what is pending and what is under way are taken back
 pub record StandsOn (log : List LogEntry) (position : Position) (view : View) : Type 0 where
   pub within : position.version ≤ length log
   pub on_tables : AreSame (tables_at log position.version) (base position.flight view)

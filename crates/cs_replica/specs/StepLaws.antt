@@ -93,7 +93,7 @@ OnePushed =
     → IsPushAsked tables other its last
     → (some ≡ other) × IsSameMember tables one last
 
--- there is one: a push of a replica that some store shows has a result, and some store shows what it leaves; the names of the tables are
+-- there is one: a push of a replica that some store shows has a result, and some store shows what it leaves. The names of the tables are
 -- text
 abbrev pub PushHasResult : Type 0
 PushHasResult =

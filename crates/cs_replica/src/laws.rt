@@ -25,8 +25,8 @@ pub fn edit_stands()
     cs_pending::laws::edit_keeps_before();
 }
 
-/// What keeps version and log's rows leaves it there, and what makes of the log's rows what the next entry makes of them leads to
-/// the next version. So does what makes of them what leads to another version, at that version.
+/// What keeps version and log's rows leaves it there. What makes of the log's rows what the next entry makes of them leads to the
+/// next version. So does what makes of them what leads to another version, at that version.
 pub fn steps_stand()
     ensures kept { KeptStands }
     ensures entry { EntryStands }
@@ -47,7 +47,7 @@ pub fn equal_at_rest()
     ensures { EqualAtRest }
 {}
 
-/// Where a picker has one answer to each clash, an answer of the hub has one result, and leaves one position, one thing in the store, and
+/// Where a picker has one answer to each clash, an answer of the hub has one result. It leaves one position, one thing in the store, and
 /// one state of the picker.
 pub fn one_answered<P: Picker>()
     ensures { OneAnswered P.picks }
@@ -58,7 +58,7 @@ pub fn one_answered<P: Picker>()
     cs_exchange::pulling::laws::one_told::<P>();
 }
 
-/// Where a picker has a lawful answer to each clash, an answer of the hub in bytes has a result, and there is a store that holds what is
+/// Where a picker has a lawful answer to each clash, an answer of the hub in bytes has a result. There is a store that holds what is
 /// left.
 pub fn answer_has_result<P: Picker>()
     ensures { AnswerHasResult P.picks P.is_ready }
@@ -119,7 +119,7 @@ fn one_answered_by<P: Picker>(_picker: &P)
     one_answered::<P>();
 }
 
-/// But for want of memory and a device that fails an answer that is heard by a list of wishes has one result, and leaves one replica.
+/// But for want of memory and a device that fails an answer that is heard by a list of wishes has one result. It leaves one replica.
 pub fn one_heard()
     ensures { OneHeard }
 {

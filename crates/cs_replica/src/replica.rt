@@ -71,10 +71,11 @@ impl<S: RowStore> Model for Replica<S> {
 }
 
 impl<S: RowStore> Replica<S> {
-    /// Opens the replica with this id over a store. A store that holds nothing is laid out in one commit: the replica is at version 0
-    /// with no row, nothing pending and nothing under way. Of any other store each row and each pending change is read once, and
-    /// judged. Where it keeps what is pending as one value, as replicas once did, that is moved to the places of its changes, in one
-    /// commit. An id is at most 4,294,967,294: the last number is a hub's own. At `Err` the store comes back as it was.
+    /// Opens the replica with this id over a store. A store that holds nothing is laid out in one commit. The replica is then at
+    /// version 0 with no row, nothing pending and nothing under way. Of any other store each row and each pending change is read
+    /// once, and judged. Where it keeps what is pending as one value, as replicas once did, that is moved to the places of its
+    /// changes, in one commit. An id is at most 4,294,967,294: the last number is a hub's own. At `Err` the store comes back as it
+    /// was.
     ///
     /// # Errors
     ///
@@ -189,7 +190,7 @@ impl<S: RowStore> Replica<S> {
         gather_at(alloc, &mut self.store, &self.catalog, &self.position)
     }
 
-    /// The rows of the table with this number in the catalog, each behind the bytes of its key and in the order of these; none past
+    /// The rows of the table with this number in the catalog, each behind the bytes of its key and in the order of these. None past
     /// the last table. The store is only read.
     pub fn rows(&mut self, alloc: Global, table: usize) -> Result<Vec<RowAtKey>, StoreFault>
         // They are the rows that the store shows.
@@ -365,8 +366,8 @@ impl<S: RowStore> Replica<S> {
         edited
     }
 
-    /// Makes what is pending the push that is under way, in one commit before it answers, and gives the request that tells the hub
-    /// of it. The first fault that holds is told: `Nothing`, `InFlight`, `Spent`, `TooLarge`.
+    /// Makes what is pending the push that is under way, in one commit before it answers. It gives the request that tells the hub
+    /// of the push. The first fault that holds is told: `Nothing`, `InFlight`, `Spent`, `TooLarge`.
     pub fn make_push(&mut self, alloc: Global) -> Result<RequestBuf, PushFault>
         // What was pending is under way, in one commit; at `Err` nothing has changed.
         ensures writes { WritesStore S.RowStore push.Device (ShowsSomeAt self.old.catalog self.old.position (S.contents self.old.store))
@@ -427,9 +428,10 @@ impl<S: RowStore> Replica<S> {
         }
     }
 
-    /// Takes the entry of the hub's log that is told at an index: where it is the push that is under way, that is confirmed; of
-    /// another's each row becomes the three-way merge of the log's row at the version, the own one, and the log's at the next, by
-    /// the picker's wishes. It is one commit. The first fault that holds is told: `Behind`, `Gap`, `BadEntry`, `Stopped`.
+    /// Takes the entry of the hub's log that is told at an index. Where it is the push that is under way, that is confirmed. Of
+    /// another's each row becomes the three-way merge of the log's row at the version, the own one, and the log's at the next.
+    /// The picker decides by its wishes. It is one commit. The first fault that holds is told: `Behind`, `Gap`, `BadEntry`,
+    /// `Stopped`.
     pub fn take<P: Picker>(
         &mut self,
         alloc: Global,
@@ -467,9 +469,9 @@ impl<S: RowStore> Replica<S> {
         )
     }
 
-    /// Takes what the entries of the hub's log from an index up to a version do, as one changeset: each row becomes the three-way
-    /// merge of the log's row at the one, the own one, and the log's at the other, by the picker's wishes. A push that is under way
-    /// becomes pending. It is one commit. The first fault that holds is told: `Behind`, `Gap`, `BadEntry`, `Stopped`.
+    /// Takes what the entries of the hub's log from an index up to a version do, as one changeset. Each row becomes the three-way
+    /// merge of the log's row at the one, the own one, and the log's at the other. The picker decides by its wishes. A push that is
+    /// under way becomes pending. It is one commit. The first fault that holds is told: `Behind`, `Gap`, `BadEntry`, `Stopped`.
     pub fn take_merged<P: Picker>(
         &mut self,
         alloc: Global,
@@ -509,10 +511,10 @@ impl<S: RowStore> Replica<S> {
         )
     }
 
-    /// Takes an answer of the hub. A push that was accepted is confirmed, where it is the one that is under way; entries are taken one
-    /// after another, each in a commit of its own: those before the version are passed over, and the list ends where the picker
-    /// stops, and at an entry behind the one at the version. What was taken stays, whatever comes later. Entries that are told together
-    /// are taken in one commit, where they are for this replica and begin at its version.
+    /// Takes an answer of the hub. A push that was accepted is confirmed, where it is the one that is under way. Entries are taken one
+    /// after another, each in a commit of its own. Those before the version are passed over. The list ends where the picker stops, and
+    /// at an entry behind the one at the version. What was taken stays, whatever comes later. Entries that are told together are taken
+    /// in one commit, where they are for this replica and begin at its version.
     pub fn answer<P: Picker>(
         &mut self,
         alloc: Global,
