@@ -1,4 +1,4 @@
--- What the hub answers to a request of a sound world: it is true of the log after it, and the log grew by that push at most.
+-- What the hub answers to a request of a sound world. It is true of the log after it, and the log grew by that push at most.
 use Rattle.std.proofs.Common.{◌≡◌, ◌≢◌, ◌≤◌, ◌<◌, ◌+◌, ◌^◌, ◌∙◌, ◌++◌, ℕ, List, [], ◌∷◌, Option, Some, None, Result, Ok, Err, length, map, slice_get, drop, option_map, refl, sym, ap, subst, inl, inr, arith, append-nil, length-append}
 use Rattle.std.specs.Prelude.{◌⊎◌, All}
 use Rattle.std.proofs.lemmas.List.{length-drop, length-take, take_all}

@@ -1,4 +1,4 @@
--- What a step makes of the store in which it writes it makes of that store in any world in which that store keeps the same.
+-- What a step makes of the store in which it writes it makes of that store in any world where that store keeps the same.
 use Rattle.std.proofs.Common.{◌≡◌, ◌∙◌, ◌++◌, ℕ, List, [], ◌∷◌, Option, Some, None, length, slice_get, slice_set, refl, sym, ap, subst, append-nil}
 use Rattle.std.proofs.lemmas.List.{append_cancel_left}
 use Rattle.std.specs.Prelude.{IsSome}
