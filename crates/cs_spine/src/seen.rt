@@ -1,9 +1,9 @@
 //! What a cell of `once_cell` holds once it is set, as a token that takes no bytes. A note of that crate says the same, but is
-//! read and compared through `&mut` alone; a `Seen` is read, copied and compared through `&`, so that several may hold it
-//! and send it to other threads. `Seen::of` takes one from a note that has learned a value, `again` copies it, `agrees`
-//! says that two of one cell tell one value, since a cell is set once, and `recall` reads the cell again, which is set. The
-//! crate stands on `once_cell` alone and knows nothing of logs. Its proofs are by hand, since a token owns a fact and no memory.
-//! Its tests stand in `cs_spine_tests`.
+//! read and compared through `&mut` alone. A `Seen` is read, copied and compared through `&`, so that several may hold it and
+//! send it to other threads. `Seen::of` takes one from a note that has learned a value, and `again` copies it. `agrees` says that
+//! two of one cell tell one value, since a cell is set once. `recall` reads the cell again, which is set. The crate stands on
+//! `once_cell` alone and knows nothing of logs. Its proofs are by hand, since a token owns a fact and no memory. Its tests stand
+//! in `cs_spine_tests`.
 
 ghost use Rattle.std.specs.Prelude.{◌≡◌, ℕ, IsSome, Some};
 ghost use denote.Sharing.{said};
