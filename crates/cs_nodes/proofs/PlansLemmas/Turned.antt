@@ -60,7 +60,7 @@ StaysQuiet old new outcome =
 no_more : (old new : ℕ) → old ≡ 0 → new ≡ old → MoreFailures old new → ⊥
 no_more old new none same more = omega (arith, none, same, more)
 
--- by what a call says of its store: nothing that can be read is misread, and a failed device is told only where one more was
+-- by what a call says of its store: what can be read isn't misread, and a failed device is told only where one more was
 pub stays_quiet : (old new : NodeState InMemory) (device : Type 0) (outcome : StepOutcome)
     → (Unit {0} → ShowsSomeAt old.replica.catalog old.replica.position (held_by old.replica.store) → new.replica.store.misreads ≡ old.replica.store.misreads)
     → (device → MoreFailures old.replica.store.misreads new.replica.store.misreads)
