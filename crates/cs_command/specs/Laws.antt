@@ -1,5 +1,5 @@
--- The laws of the program: table words are one catalog, or have one first word that is refused; and what some command lines ask
--- for, so that no clause on a run is empty.
+-- The laws of the program: table words are one catalog, or have one first word that is refused. They say also what some command
+-- lines ask for, so that no clause on a run is empty.
 use Rattle.std.specs.Prelude.{◌≡◌, ℕ, List, [], ◌∷◌, Some, None, codes}
 use Rattle.clap.specs.Words.{Text}
 use Rattle.clap.specs.declared.error.kind.ErrorKind.TheVariants as kind
