@@ -1,4 +1,4 @@
--- What `combine` writes: the changesets that the lines of the input spell, as one, or why there is none (profile of this project over
+-- What `combine` writes: the changesets that the input's lines spell, as one, or why there is none (profile of this project over
 -- SQLite's changegroup).
 use Rattle.std.specs.Prelude.{◌≡◌, ◌≢◌, ◌⊎◌, ℕ, List, [], ◌∷◌, length, Option}
 use Rattle.std.specs.List.{AllZip, flat_map}

@@ -25,7 +25,7 @@ use Rattle.cs_tools.specs.declared.show.Shown.{Shown}
 use Rattle.cs_tools.specs.declared.show.Shown.TheVariants.{Blob, Changeset}
 use Rattle.cs_tools.specs.declared.tool.Form.{Form}
 
--- what is known of what reads a file: the bytes that remain and how many it holds, where these are known, and whether a read failed
+-- what is known of a file's reader: the bytes that remain and how many it holds, where these are known, and whether a read failed
 abbrev pub Reading : Type 0 → Type 1
 Reading I = record { remaining : I → Option (List ℕ); consumable_len : I → Option ℕ; failed : I → Type 0 }
 

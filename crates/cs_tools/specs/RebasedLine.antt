@@ -1,5 +1,5 @@
--- What `rebase` writes: the changeset of one line, rebased over the blob of the next, or why there is none (profile of this project over
--- SQLite's "Session Extension", rebasing changesets).
+-- What `rebase` writes: the changeset of one line, rebased over the blob of the next, or why there is none. (Profile of this project
+-- over SQLite's "Session Extension", rebasing changesets.)
 use Rattle.std.specs.Prelude.{◌≡◌, ◌⊎◌, ℕ, List, [], ◌∷◌, ◌++◌, Option}
 use Rattle.cs_lines.specs.Lines.{hex_line}
 use Rattle.cs_lines.specs.Reading.{StaysInLine}
@@ -40,8 +40,8 @@ pub record TakesBoth (old new : Option (List ℕ)) (groups : List Group) (blob :
 abbrev pub heads_of_both : List Group → List BlobGroup → List Head
 heads_of_both groups blob = heads_of groups ++ blob_heads_of blob
 
--- the changeset of the next line, which has this normal form by the catalog of its own headers, is rebased over the blob of the line behind
--- it. The bytes spell what comes out, in this form
+-- the changeset of the next line has this normal form by the catalog of its own headers. It is rebased over the blob of the line behind it.
+-- The bytes spell what comes out, in this form
 pub record Rebases (form : Form) (old new : Option (List ℕ)) (bytes : List ℕ) : Type 0 where
   pub groups : List Group
   pub local : List TableChanges
