@@ -2,7 +2,7 @@
 use Rattle.std.specs.Prelude.{ℕ, List, Option}
 use Rattle.cs_tools.specs.Files.{Reading}
 
--- what is known of what is written to: the bytes that it got, where these are known, whether none is held back, and whether a write failed
+-- what is known of a writer: the bytes that it got, where these are known, whether none is held back, and whether a write failed
 abbrev pub Writing : Type 0 → Type 1
 Writing W = record { contents : W → Option (List ℕ); sent : W → Type 0; failed : W → Type 0 }
 

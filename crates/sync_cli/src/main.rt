@@ -1,5 +1,5 @@
-//! The program `sync`: a hub over memory or a file, a replica over a file, each worked by lines, worlds that run scripts, and tools for
-//! changesets.
+//! The program `sync`: a hub over memory or a file and a replica over a file, each worked by lines. It has also worlds that run
+//! scripts, and tools for changesets.
 //!
 //! It only wires `cs_command` for the command line, `cs_node_lines`, `cs_script` and `cs_tools` for what is asked for, and `cs_map_store`
 //! and `cs_sql` for the stores. `run` carries the promise, end by end (`specs/Endings.antt`, `specs/OverFiles.antt`): what the words ask

@@ -40,8 +40,8 @@ pub fn run<'w, S: AsStr, O: Opener + InputFiles, R: LineInput, W: LineOutput>(
     ensures untaken { faults_of (map S.text words.entry.now) ≢ []
         → EndsUntaken (faults_of (map S.text words.entry.now)) (streams_of R.LineInput W.LineOutput reader.old reader.new writer.old writer.new) result }
 
-    // What the words ask for was done, or why not. A hub answered the lines, a world ran the script, a replica was worked by the lines, or
-    // a tool wrote what it owes for lines or files.
+    // What the words ask for was done, or why not. A hub answered the lines, a world ran the script, or a replica was worked by the lines.
+    // Or a tool wrote what it owes for lines or files.
     ensures asked { (asked : Wanted) → faults_of (map S.text words.entry.now) ≡ []
         → wanted_of (map S.text words.entry.now) ≡ Some asked
         → EndsAsked O.Store.RowStore O.Opener O.Input.PieceInput O.InputFiles opener.new
