@@ -12,7 +12,7 @@ use Rattle.cs_store.specs.Contents.{Contents, stored_tables}
 use Rattle.cs_store.specs.Laws.{row_after}
 use Rattle.cs_store.specs.edits.Edits.{BodyEdit}
 
--- the store holds these rows, and they are rows of the tables: at a table's place in the catalog and the bytes of a key
+-- the store holds these rows, and they are rows of the tables. At a table's place in the catalog and the bytes of a key
 -- it has the bytes of the row that stands there, or none
 pub record Holds (tables : List TableDef) (contents : Contents) (state : State) : Type 0 where
   pub rows : IsStateOf tables state
@@ -26,8 +26,8 @@ place_bytes table key = to_be_bytes w32 table ++ key
 abbrev pub edit_place : BodyEdit → List ℕ
 edit_place edit = place_bytes edit.table edit.key
 
--- what a commit of these edits makes of what the store holds is this state; the edits are of the tables, and rise by
--- their tables' places and then by the bytes of their keys, so each place stands in one at most; none leaves what is there
+-- what a commit of these edits makes of what the store holds is this state. The edits are of the tables, and rise by their
+-- tables' places and then by the bytes of their keys. So each place stands in one at most. None leaves what is there
 pub record AreEdits (tables : List TableDef) (contents : Contents) (edits : List BodyEdit) (end : State) : Type 0 where
   pub written : (number : ℕ) (table : TableDef) (key : List ℕ) → slice_get tables number ≡ Some table
       → row_after edits number key (stored_tables contents number key) ≡ option_map row_bytes (end table.name key)

@@ -36,8 +36,8 @@ AtTable Stores tables place body =
 abbrev pub IsName : List ℕ → Type 0
 IsName bytes = (name : MetaName) × (bytes ≡ name_text name)
 
--- each row is one of a table of the catalog, at its number and its own key, and so is each pending change; each entry's body
--- decodes; and values have no names but ours
+-- each row is one of a table of the catalog, at its number and its own key, and so is each pending change. Each entry's body
+-- decodes, and values have no names but ours
 pub record IsWhole (tables : List TableDef) (contents : Contents) : Type 0 where
   pub rows : (place : StorePlace) (body : List ℕ) → get contents.rows place ≡ Some body → AtTable StoresRow tables place body
   pub pending : (place : StorePlace) (body : List ℕ) → get contents.pending place ≡ Some body → AtTable StoresChange tables place body

@@ -18,9 +18,9 @@ pub fn one_commit<S: RowStore>(_store: &S)
     ensures refused { OneRefusal S.RowStore }
 {}
 
-/// Calls that follow one another, the first answering a `T` and the second a `U`: where the first succeeds, reads are reads
-/// together, a read and a commit are that commit, and so are a commit and reads that succeed; all of this also of what a stop
-/// may leave. A read that fails changes as little as a commit that fails.
+/// Calls that follow one another, the first answering a `T` and the second a `U`, where the first succeeds. Reads are reads
+/// together. A read and a commit are that commit, and so are a commit and reads that succeed. All of this holds also of
+/// what a stop may leave. A read that fails changes as little as a commit that fails.
 pub fn calls<S: RowStore, T, U>(_store: &S)
     ensures reads { ReadsThenReads S.RowStore T U }
     ensures commits { ReadsThenCommits S.RowStore T U }
@@ -29,8 +29,8 @@ pub fn calls<S: RowStore, T, U>(_store: &S)
     ensures alike { ReadsAlike S.RowStore T U }
 {}
 
-/// What a commit leaves at each place of the tables and of the pending changes, at each name and at each version, and that what
-/// it doesn't name stays. A store that does just that shows that there are such commits.
+/// What a commit leaves at each place of the tables and of the pending changes, at each name and at each version. What it
+/// doesn't name stays. A store that does just that shows that there are such commits.
 pub fn commits()
     ensures rows { WritesRows }
     ensures pending { WritesPending }
@@ -45,8 +45,8 @@ pub fn commits()
     ensures can_be { CommitCanBe }
 {}
 
-/// A store holds one state of the tables at most, and a commit of the edits of one state to another leaves a store that holds
-/// the other.
+/// A store holds one state of the tables at most. A commit of the edits of one state to another leaves a store that holds the
+/// other.
 pub fn states()
     ensures one { HoldsOneState }
     ensures edited { EditsLeadToState }

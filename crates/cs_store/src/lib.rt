@@ -1,13 +1,13 @@
-//! Stores of rows, of pending changes, of values by name and of a log, in bytes: keys and rows as records' bytes, pending
-//! changes as a change's, entries by origin, number and body. `RowStore` says what any store owes: a read answers what stands
-//! there and changes nothing, a commit is whole or changes nothing, `Device` is answered only where the count of failures
-//! rose, and a stop leaves something. `Trip` is a store for tests that refuses one call. A store in memory stands in
-//! `cs_map_store`.
+//! Stores of rows, of pending changes, of values by name and of a log, in bytes. Keys and rows are bytes of records, a
+//! pending change is the bytes of a change, and an entry has origin, number and body. `RowStore` says what any store
+//! owes. A read answers what stands there and changes nothing, and a commit is whole or changes nothing. `Device` comes
+//! only where the count of failures rose or stands at its last value, and a stop leaves something. `Trip` is a store for
+//! tests that refuses one call. A store in memory stands in `cs_map_store`.
 //! `check` says whether all that a store holds is what its places say, by a catalog; `is_row`, `is_change`, `is_body` and
 //! `is_name` judge one piece of it. The crate stands on rows and changes (`cs_record`, `cs_change`, `cs_changeset`), on normal
-//! changesets and states (`cs_normal`), and on the order of keys (`cs_order`). `edits` are edits at places, `log` has the entries of a log. `laws` says that a listing
-//! and a commit have one answer, what a commit leaves at each place, how calls follow one another, and that a store holds
-//! one state of the tables.
+//! changesets and states (`cs_normal`), and on the order of keys (`cs_order`). `edits` are edits at places, `log` has the
+//! entries of a log. `laws` says that a listing and a commit have one answer, and what a commit leaves at each place. It says
+//! too how calls follow one another, and that a store holds one state of the tables.
 //! Its tests stand in `cs_stores_tests`.
 //! What names no section of SQLite's documentation is profile of this project.
 #![tactic(auto)]

@@ -2,9 +2,9 @@
 //! replica, with the changeset that it made. `specs/log/Log.antt` says what a log is and which tables and catalog it has at a
 //! version; whoever stands above speaks of them by those names. `put_body` appends what an entry does as it is stored,
 //! `read_body` reads exactly that, and `is_stored_body` tells whether bytes are such. `laws` says that a longer log has the same
-//! tables at the versions that it had, that there is one state a version, and that the entries between two versions lead from
-//! the one's tables to the other's. It stands on changesets (`cs_changeset`), their normal forms (`cs_normal`,
-//! `cs_normalising`) and the order of keys (`cs_order`), and on no store.
+//! tables at the versions that it had, and that there is one state a version. It says too that the entries between two
+//! versions lead from the one's tables to the other's. The module stands on changesets (`cs_changeset`), their normal forms
+//! (`cs_normal`, `cs_normalising`) and the order of keys (`cs_order`), and on no store.
 //! Its tests stand in `cs_changes_tests`.
 
 mod body;

@@ -21,12 +21,12 @@ pub struct StoredBody {
 
 /// A store of rows, of pending changes at the places of their rows, of values by name and of a log, in bytes. Reads take
 /// `&mut self`, since a device's failure raises `failures`. What a call says of contents it says
-/// where the store is honest as the call ends, and a store that is honest then was so before.
+/// where the store is honest as the call ends. A store that is honest then was so before.
 ///
 /// # Errors
 ///
-/// Each call but `misread` and `failures` may answer `Memory`, where memory was refused, and `Device`, where the count of
-/// failures rose or stands at its last value. What the store holds has not changed then.
+/// Each call but `misread` and `failures` may answer `Memory`, where memory was refused, and `Device`. At `Device` the
+/// count of failures rose or stands at its last value. At either, what the store holds has not changed.
 pub trait RowStore {
     /// What it holds, as far as its calls have told.
     ghost contents: { Self → Contents };
@@ -49,8 +49,8 @@ pub trait RowStore {
             optional_bytes row ≡ stored_tables (contents self.old) table key.now) }
         ensures reads { OnlyReads honest contents failed may_leave misreads self.old self.new result };
 
-    /// Puts the row at a table's number and the bytes of a key in place of what is in the list, whose memory the store may use again,
-    /// and tells whether there is one; where there is none, and at an `Err`, the list may hold anything.
+    /// Puts the row at a table's number and the bytes of a key in the list, and tells whether there is one. What was in the list
+    /// goes, and the store may use its memory again. Where there is no row, and at an `Err`, the list may hold anything.
     fn get_into(&mut self, table: u32, key: &[u8], row: &mut Vec<u8>) -> Result<bool, StoreFault>
         ensures found { honest self.new → IfOk result (λ there.
             stored_tables (contents self.old) table key.now ≡ if_there there row.new.items) }
@@ -113,14 +113,14 @@ pub trait RowStore {
     fn commit(&mut self, batch: &Batch) -> Result<(), StoreFault>
         ensures { Commits honest contents failed may_leave misreads (after_batch batch.now (contents self.old)) self.old self.new result };
 
-    /// Counts a failed call, since what a call of this store gave can't have been written to it: a body that is no row of its
-    /// table, an entry that doesn't decode. It answers the fault to tell, which is `Device`, and changes nothing else.
+    /// Counts a failed call, since what a call gave can't have been written to this store. Such is a body that is no row of
+    /// its table, or an entry that doesn't decode. The answer is the fault to tell, `Device`, and nothing else changes.
     fn misread(&mut self) -> StoreFault
         ensures told { result ≡ Device }
         ensures counted { CountsMisread honest contents failed may_leave misreads self.old self.new result };
 
-    /// Whether all that it holds is what its places say: each row is one of a table of the catalog, at the table's number and
-    /// its own key, and so is each pending change; each entry's body decodes; and no value has a name but ours.
+    /// Whether all that it holds is what its places say. Each row is one of a table of the catalog, at the table's number and
+    /// its own key, and so is each pending change. Each entry's body decodes, and no value has a name but ours.
     fn check(&mut self, catalog: &Catalog) -> Result<bool, StoreFault>
         ensures checked { honest self.new → IfOk result (λ good. IsTrue good ↔ IsWhole catalog.now (contents self.old)) }
         ensures reads { OnlyReads honest contents failed may_leave misreads self.old self.new result };

@@ -35,8 +35,8 @@ LongerLog =
     → (catalog_at opening (log ++ more) version ≡ catalog_at opening log version)
     × (tables_at (log ++ more) version ≡ tables_at log version)
 
--- where the first entries lead from no row to a state, each defined on what the earlier ones left, that state is the tables
--- at their version
+-- a state that the first entries make from no row, each defined on what the earlier ones left, is the tables at their
+-- version
 abbrev pub OneStateAVersion : Type 0
 OneStateAVersion =
     (opening : List TableDef) (log : List LogEntry) (version : ℕ) (state : State)

@@ -32,8 +32,8 @@ catalog_at opening log version = opening
 abbrev pub entries_between : List LogEntry → ℕ → ℕ → List LogEntry
 entries_between log from to = drop from (take to log)
 
--- an entry behind a log: a normal changeset of the tables that the catalog then has, with or without changes, each of
--- them defined at its place on the tables that the log makes
+-- an entry behind a log: a normal changeset of the tables that the catalog then has, with or without changes. Each
+-- change is defined at its place on the tables that the log makes
 pub record IsNextEntry (opening : List TableDef) (log : List LogEntry) (entry : LogEntry) : Type 0 where
   pub normal : IsNormalChangeset (entry_changes entry)
   pub defined : IsDefinedOn (catalog_at opening log (length log)) (entry_changes entry) (state_of log)

@@ -7,9 +7,9 @@ use std::alloc::{AllocError, Global};
 use std::marker::Model;
 use std::mem;
 
-/// How many bytes a piece has at most, but for one that begins with longer ones: 1 MiB. One list of all bytes would be longer than any
-/// that the C library (glibc) keeps for the next call, where edits are many, and have fresh pages each time; and how long it has to
-/// be isn't known before.
+/// How many bytes a piece has at most, but for one that begins with longer ones: 1 MiB. Where edits are many, one list of all bytes
+/// would be longer than any that the C library (glibc) keeps for the next call. It would have fresh pages each time, and its length
+/// isn't known before.
 const PIECE: usize = 0x10_0000;
 
 /// As many full pieces have numbers of 32 bits. The last piece of so many grows on.

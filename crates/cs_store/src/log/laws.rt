@@ -44,8 +44,8 @@ pub fn one_state_a_version()
     ensures { OneStateAVersion }
 {}
 
-/// The entries between two versions, where none widens a table, lead from the tables at the one to those at the other: each is
-/// defined on what the earlier ones left.
+/// The entries between two versions, where none widens a table, lead from the tables at the one to those at the other. Each
+/// entry is defined on what the earlier ones left.
 pub fn plain_slices()
     ensures { PlainSlices }
 {}

@@ -1,4 +1,4 @@
-//! Whether bytes are those that a body is stored as. Nearly all are, which shows in the bytes where they stand: the groups are the
+//! Whether bytes are those that a body is stored as. Nearly all are, and the bytes show it where they stand. The groups are the
 //! catalog's tables in order, and the changes of each are in normal form, in the order of their keys.
 
 ghost use Rattle.std.specs.Prelude.{◌≡◌, ◌↔◌, IfOk, IfSome, IsTrue, map};
