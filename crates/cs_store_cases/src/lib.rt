@@ -1,6 +1,6 @@
-//! What tests of stores share: batches that are made of parts (`batch`), all that a store shows, as text (`image`), and cases of both,
-//! with what is shown, that were written by hand (`shows_commits`, `is_found`). It stands on `cs_store` alone, so that any store can be
-//! asked; tests higher up take the catalog of its one table. No call promises more than to return: it is for tests alone, which see what comes
+//! What tests of stores share. `batch` makes batches of parts, and `image` is all that a store shows, as text. `shows_commits` and
+//! `is_found` are cases of both, written by hand, with what is shown. It stands on `cs_store` alone, so that any store can be asked;
+//! tests higher up take the catalog of its one table. No call promises more than to return: it is for tests alone, which see what comes
 //! of it.
 #![tactic(auto)]
 
