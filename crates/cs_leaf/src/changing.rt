@@ -108,8 +108,8 @@ pub fn stage_one(
 }
 
 /// Prepares what edits whose places rise make of a leaf. A single one is made in place, unless rows that are gone would come to
-/// take more than half of the bytes; with more edits the rows are put together in place of what is in `room`. Where memory is refused, the
-/// leaf comes back.
+/// take more than half of the bytes. With more edits the rows are put together in place of what is in `room`. Where memory is
+/// refused, the leaf comes back.
 #[inline(always)]
 pub fn stage(
     alloc: Global,

@@ -557,8 +557,8 @@ impl Leaf {
         }
     }
 
-    /// How many of `count` are before a place, nearly, if they are spread evenly between the first place here and that of another
-    /// leaf; none, where these are not of its table. It says where to begin to look, and is no part of a result.
+    /// Nearly how many of `count` are before a place, if they are spread evenly between the first place here and that of another
+    /// leaf. It is `None` where these are not of its table. It says where to begin to look, and is no part of a result.
     #[inline(always)]
     pub fn share_before(&self, other: &Leaf, count: usize, place: &Place) -> Option<usize> {
         if self.front.table != place.table || other.front.table != place.table {
@@ -582,8 +582,8 @@ impl Leaf {
         Ok(())
     }
 
-    /// Appends the rows of a leaf from one place on, up to another, that stand one behind another in its bytes, and answers where the
-    /// leaf goes on. At `Err` nothing has changed.
+    /// Appends rows of a leaf from one place on, up to another: those that stand one behind another in its bytes. It answers where
+    /// the leaf goes on. At `Err` nothing has changed.
     fn push_run(&mut self, leaf: &Leaf, from: usize, to: usize) -> Result<usize, AllocError>
         requires { (from < to) × (to ≤ length leaf.now) }
         ensures bound { IfOk result (λ next. (from < next) × (next ≤ to)) }
@@ -695,8 +695,8 @@ pub struct Unamended {
     pub why: Why,
 }
 
-/// How many bytes rows take once so many of `used` are gone and those behind `held` have come, where that is at least half of
-/// all that there are then.
+/// How many bytes rows take once so many of `used` are gone and those behind `held` have come. It is `None` where that is
+/// less than half of all that there are then.
 #[inline(always)]
 fn used_if_tight(used: usize, gone: usize, held: usize, len: usize) -> Option<usize>
     requires { (gone ≤ used) × (used ≤ held) × (held ≤ len) }
@@ -727,8 +727,7 @@ fn given_back(front: Front, bytes: Vec<u8>, spots: Vec<Spot>, used: usize, why: 
     }
 }
 
-/// What an edit does to the spots at its place: it sets the row that is there, adds one, removes the one that is there, or
-/// finds none to remove.
+/// What an edit does to the spots: it sets the row at its place, adds one, removes the one there, or finds none to remove.
 #[derive(Clone, Copy)]
 enum SpotEdit {
     Set(Spot),

@@ -57,7 +57,7 @@ pub(crate) fn merged_one(
 }
 
 /// The rows of a leaf after edits, in memory of their own. They are put together in place of what is in `room`, and copied, since
-/// how much memory they take is known then alone: with all that they may take, leaves would take twice as much.
+/// how much memory they take is known then alone. With all that they may take, leaves would take twice as much.
 pub(crate) fn merged(
     alloc: Global,
     leaf: &Leaf,
@@ -77,8 +77,8 @@ pub(crate) fn merged(
     room.copied(alloc)
 }
 
-/// Puts the rows of a leaf after edits, from a row and an edit on, in place of what is in `merged`: up to the edit with which there are
-/// so many, or all that are left. It answers which row and which edit are next.
+/// Puts the rows of a leaf after edits, from a row and an edit on, in place of what is in `merged`. They go up to the edit with which
+/// there are so many, or are all that are left. It answers which row and which edit are next.
 pub fn merge_some(
     merged: &mut Leaf,
     leaf: &Leaf,
