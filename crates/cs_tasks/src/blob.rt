@@ -178,9 +178,9 @@ impl BlobBuf {
         put_answered(marks, &changes[at], answer, &mut self.made, &mut self.bytes)
     }
 
-    /// Appends the entry of the change there of a group, whose conflict was answered so, behind the group's header where no conflict
-    /// of its changes was answered yet. Its bytes are promised only where `begin_group` was called as the group began. An `Err` changes
-    /// nothing.
+    /// Appends the entry of the change there of a group, whose conflict was answered so. Where no conflict of its changes was
+    /// answered yet, the group's header comes before it. Its bytes are promised only where `begin_group` was called as the group
+    /// began. An `Err` changes nothing.
     pub fn put(&mut self, group: &Group<'_>, at: usize, answer: Resolution) -> Result<(), Memory>
         requires { at < length group.now.changes }
         ensures ok { (front : List ℕ) → (given : List (Option Answer)) → length given ≡ at → list_any is_some given ≡ self.old.headed

@@ -81,7 +81,7 @@ impl<'a> ChangeKeys<'a> {
         self.keys.len()
     }
 
-    /// The key there. Its change lends it once more, since who asks for keys out of order asks for their changes too: where many
+    /// The key there. Its change lends it once more, since who asks for keys out of order asks for their changes too. Where many
     /// stand, a list that is read beside these is one wait more for each.
     #[inline(always)]
     pub(crate) fn get(&self, at: usize) -> &[u8]

@@ -1,11 +1,11 @@
-//! Which changes of a changeset are applied onto tables, each with its place, and the rebase blob of the answers to their conflicts
-//! (SQLite's "Session Extension", `sqlite3changeset_apply_v2` and rebasing). It stands on changes (`cs_change`), answers
-//! (`cs_conflict`), rebase blobs (`cs_blob`) and the places of stores (`cs_store`), and looks at no store: `cs_apply`, which stands
-//! on it, does. `find_tasks` gives the changes of the groups that fit a table, in order, the table and the place of each
-//! (`TaskPlaces`, which lends its keys from the changes where these are of one table), and how many groups fit none, or tells exactly
-//! that a change has NULL at a key column; `count_of` says how many changes of a group are applied. `BlobBuf` takes the answers to the
-//! conflicts of a group one after another, and group after group, and is the blob of these. `laws` says that a blob goes group by
-//! group, and that the reader of blobs takes it. Its tests stand in `cs_operations_tests`.
+//! The changes of a changeset that are applied onto tables, with their places, and the rebase blob of the answers to their conflicts.
+//! Both follow SQLite's "Session Extension", `sqlite3changeset_apply_v2` and rebasing. The crate stands on changes (`cs_change`),
+//! answers (`cs_conflict`), rebase blobs (`cs_blob`) and the places of stores (`cs_store`), and looks at no store: `cs_apply`, which
+//! stands on it, does. `find_tasks` gives the changes of groups that fit a table, in order, each with its table and place, and how
+//! many groups fit none. Else it tells that a change has NULL at a key column, exactly where one has. `TaskPlaces` are these places,
+//! and lend their keys from the changes where these are of one table. `count_of` says how many changes of a group are applied.
+//! `BlobBuf` takes the answers to the conflicts of a group one after another, and group after group, and is the blob of these. `laws`
+//! says that a blob goes group by group, and that the reader of blobs takes it. Its tests stand in `cs_operations_tests`.
 //! What names no section of SQLite's documentation is profile of this project.
 #![tactic(auto)]
 
