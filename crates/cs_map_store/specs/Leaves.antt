@@ -99,8 +99,8 @@ abbrev pub before_staged : Staged → List (List Entry) → List (List Entry)
 before_staged (Patches patches) leaves = restored leaves patches.items
 before_staged (Fresh made) leaves = leaves
 
--- what is staged can be put in: each patch is for a leaf that is there, and unless one leaves a leaf without a row, or for new
--- leaves at once, no leaf is empty then
+-- what is staged can be put in. Each patch is for a leaf that is there. Unless one leaves a leaf without a row, no leaf is
+-- empty then, and no new leaf is empty
 abbrev pub CanBePut : Staged → List (List Entry) → Type 0
 CanBePut (Patches patches) leaves =
     ArePatches (length leaves) patches.items

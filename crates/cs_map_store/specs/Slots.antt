@@ -1,5 +1,5 @@
--- What a `MapStore` holds: rows and pending changes in leaves, values of meta in a map of slots under `meta_table`, and the
--- log as a list of entries.
+-- What a `MapStore` holds. Rows and pending changes are in leaves, values of meta in a map of slots under `meta_table`, and
+-- the log in a list of entries.
 -- A slot with no value shows as one that is not there, so that room can be made before anything changes.
 use Rattle.std.specs.declared.alloc.Global.{Global}
 use Rattle.std.specs.Prelude.{Vec, ◌≡◌, Some, refl, ℕ, zero, suc, ℤ, pos, negsuc, ◌+◌, map, filter, List, [], ◌∷◌, Option}

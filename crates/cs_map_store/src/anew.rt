@@ -1,4 +1,4 @@
-//! Commits of many edits, for which all leaves are made anew: the rows of each are merged with the edits that fall among them, and cut
+//! Commits of many edits, for which all leaves are made anew. The rows of each are merged with the edits that fall among them, and cut
 //! where there are enough. So a long run of new rows is copied once, and nothing has to be taken back.
 
 ghost use Rattle.std.specs.Prelude.{◌≡◌, ◌≤◌, ◌<◌, ◌++◌, List, [], T, length, take, drop, fold, None, IfOk, IfSome, OnOk};

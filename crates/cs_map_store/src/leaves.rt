@@ -1,6 +1,5 @@
 //! The rows of a `MapStore`, and its pending changes: leaves whose places rise, none of them empty. A commit first prepares
-//! what it makes of each leaf, for which it takes all the memory that it needs, and then makes it or takes it back, which takes
-//! none.
+//! what it makes of each leaf, and takes all the memory that it needs. Then it makes it or takes it back, which takes none.
 
 ghost use Rattle.std.specs.Prelude.{◌≡◌, true, false, ◌≤◌, ◌<◌, ◌+◌, ◌⊎◌, List, [], ◌++◌, ◌∷◌, T, pos, length, take, drop, fold, map, filter, slice_set, option_map, Some, None, IfOk, IfSome, OnOk, OnErr, MatchBool, vec_len, vec_capacity};
 ghost use Rattle.std.specs.List.{All};
@@ -230,8 +229,8 @@ fn rise(edits: &LentEdits<'_>) -> bool
     edits.len() <= 1 || edits_before(&[], 0, edits).is_some()
 }
 
-/// Where to begin to look for the leaves of edits whose places rise: at `near`, or where that leaf begins above the first of
-/// them, at the first leaf.
+/// Where to begin to look for the leaves of edits whose places rise. It is `near`, or the first leaf, where that at `near`
+/// begins above the first edit.
 fn begin_at(leaves: &[Leaf], near: usize, edits: &LentEdits<'_>) -> usize
     ensures { (result ≡ 0) ⊎ ReachLeaf leaves.now result edits.now }
 {
@@ -271,8 +270,8 @@ fn stage_leaf(
     }
 }
 
-/// Near which position to look for a place in its leaf: where the last look-up ended, if that was there, or else where it would be
-/// if keys were spread evenly.
+/// Near which position to look for a place in its leaf. It is where the last look-up ended, if that was there. Else it is where
+/// the place would be if keys were spread evenly.
 #[inline(always)]
 fn row_near(leaves: &[Leaf], at: usize, near: Near, place: &Place) -> usize
     requires { at < length leaves.now }
@@ -320,8 +319,8 @@ fn stage_one(
     }
 }
 
-/// Prepares what edits make of the leaves, adds it to the patches, and answers true; or false, where places of edits are found not
-/// to rise. Then, as at `Err`, some of it may be prepared. The leaf at `near` is looked at first.
+/// Prepares what edits make of the leaves, adds it to the patches, and answers true. It answers false where places of edits are
+/// found not to rise. Then, as at `Err`, some of it may be prepared. The leaf at `near` is looked at first.
 fn stage_patches(
     alloc: Global,
     leaves: &mut Vec<Leaf>,
@@ -532,8 +531,8 @@ pub fn take_back(leaves: &mut Vec<Leaf>, staged: Staged)
     }
 }
 
-/// Which leaves were changed in a way that asks for more: whether one has no row left, how many have too many, which of these is
-/// the last, and how many leaves more there are at most once these are cut.
+/// Which leaves were changed in a way that asks for more. It says whether one has no row left, how many have too many, and which
+/// of these is the last. `more` is how many leaves more there are at most once these are cut.
 #[derive(Clone, Copy)]
 struct Uneven {
     has_empty: bool,

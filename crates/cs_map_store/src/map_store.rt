@@ -22,13 +22,13 @@ use std::marker::Model;
 
 /// A store in memory. Contracts see what it holds, and the count of its misreads. Of its calls `misread` alone raises the
 /// count and tells `Device`, and a stop leaves what it holds. Its rows lie in leaves, in order, each packed into one list of
-/// bytes, and so do its pending changes. Beside where a row stands, the first 16 bytes of its key are kept as a number, and
-/// bytes are compared only where these numbers are equal. A look-up begins where the last one ended; where its place isn't
+/// bytes, and so do its pending changes. Beside where a row stands, the first 16 bytes of its key are kept as a number.
+/// Bytes are compared only where these numbers are equal. A look-up begins where the last one ended. Where its place isn't
 /// near, it begins where that would be if keys were spread evenly, and halves the leaves and then one leaf. A commit of one
-/// row or of one pending change amends its leaf in place, so it costs the logarithm of those that are there, but for a walk
-/// over the list of leaves where one is cut or goes; a leaf that gets several edits at once, or half of whose bytes would
-/// come to be of rows that are gone, is made anew, so no leaf's bytes are more than twice those of its rows. Its log lies in
-/// chunks of 256 entries, each with one list for all bodies, so that beside its bytes an entry takes 24 more, but in the last
+/// row or of one pending change amends its leaf in place, so it costs the logarithm of those that are there. It also walks
+/// over the list of leaves where one is cut or goes. A leaf is made anew at several edits at once, or where more than half
+/// of its bytes would be of rows that are gone. So no leaf's bytes are more than twice those of its rows. The log lies in
+/// chunks of 256 entries, each with one list for all bodies. So an entry takes 24 bytes beside its own, but in the last
 /// chunk. It has at most 4,294,967,295 entries; a commit of one more answers `Memory`.
 #[derive(Drop)]
 pub struct MapStore {
