@@ -88,7 +88,7 @@ pub record IsAt (schema : Schema) (s : State) : Type 0 where
   pub settled : s.committed ≡ s.now
   pub schema_is : s.now.schema ≡ schema
 
--- what a store over the database holds: nothing where it has no table, what a store's front holds, or what a store holds; no store
+-- what a store over the database holds: nothing where it has no table, what a store's front holds, or what a store holds. No store
 -- is made over a database that is none of these
 abbrev pub IsHeldIn : Database → Contents → Type 0
 IsHeldIn db held =
@@ -96,8 +96,8 @@ IsHeldIn db held =
     ⊎ (((log : LogFound) × IsFound (Front log) db × (held ≡ front_in db.trees))
     ⊎ ((log : LogFound) × IsFound (Ours log) db × (held ≡ contents_in db.trees)))
 
--- what a stop may leave where the tables that the database lacks are made, which opens as a store; of a database that is a
--- store's, or foreign, nothing
+-- what a stop may leave where the tables that the database lacks are made, which opens as a store. Of a database that is a
+-- store's, or foreign, there is no such thing
 abbrev pub IsMadeOf : Database → Trees → Type 0
 IsMadeOf db left =
     OpenAsStore left
@@ -122,7 +122,7 @@ module _ {S : Type 0} (g : Ghosts S) (shown : State) where
     pub durable : (left : Contents) → MayLeave g s left → left ≡ holds g s
     pub opens : LeavesStore (state g s.conn)
 
-  -- the connection is given back as it was: in no transaction, and where it is open it shows what it showed; a stop leaves what
+  -- the connection is given back as it was: in no transaction, and where it is open it shows what it showed. A stop leaves what
   -- it could leave before, or the tables that the database lacked
   pub record IsGivenBack (conn : Held S) : Type 0 where
     pub idle : conn.in_transaction ≡ false

@@ -1,5 +1,5 @@
--- The laws of a store in SQLite: what it holds where it is made over a database is one, what a database is found to be is one, and
--- what a stop leaves of a store opens as one.
+-- The laws of a store in SQLite. What it holds where it is made over a database is one, and what a database is found to be is one.
+-- What a stop leaves of a store opens as one.
 use Rattle.std.specs.Prelude.{◌≡◌}
 use Rattle.sqlite.specs.Effect.{Database, IsDatabase}
 use Rattle.sqlite.specs.Store.{Ghosts}
@@ -43,7 +43,7 @@ pub record OpensAs (left : Contents) (db : Database) : Type 0 where
   pub held : IsHeldIn db left
   pub only : (other : Contents) → IsHeldIn db other → other ≡ left
 
--- what a stop may leave of a store opens as one that holds what was left: a connection that shows the trees that were left shows
+-- what a stop may leave of a store opens as one that holds what was left. A connection that shows the trees that were left shows
 -- a database of theirs, and each is found so
 abbrev pub LeftOpens : {S : Type 0} → Ghosts S → Kept S → Type 0
 LeftOpens {S} g s = HasCleanDisk (state g s.conn) → (left : Contents) (it : MayLeave g s left) (db : Database) → IsDatabase db → db.trees ≡ it.0 → OpensAs left db

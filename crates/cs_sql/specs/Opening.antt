@@ -22,7 +22,7 @@ use Rattle.cs_sql.specs.Keeping.{IsAdopted, Kept, ShowsForeign}
 abbrev pub IsOpenedAt : {D : Type 0} {g : disk.Ghosts D} → Image → Kept (FileStore D g) → Type 0
 IsOpenedAt {D} {g} image s = (conn : Held (FileStore D g)) × FindsIn image (file_state conn) × IsAdopted over_files (file_state conn) s
 
--- the engine's answer where it opened no connection, and memory was not what it lacked: it got no files, or tells what they held or what became of them
+-- the engine's answer where it opened no connection, and memory was not what it lacked. It got no files, or tells what they held or what became of them
 pub record IsUnopened {D : Type 0} (g : disk.Ghosts D) : Type 0 where
   pub error : Error
   pub left : Option (Leftover D g)

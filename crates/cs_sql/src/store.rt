@@ -170,10 +170,10 @@ impl<A: Alter> SqlStore<A> {
     ///
     /// `Memory`, where `sqlite` answered that. `Device`, where it failed otherwise: its disk failed, the connection was shut, or
     /// a query took more steps than the caller allows (`EngineFails`). `Device` too, where the database is another's
-    /// (`IsFound Foreign`): its schema isn't the store's, rowids aren't numbers apart, or the log has more entries than there are
-    /// versions. No database of another is taken, and nothing is written to one. A log whose versions have gaps is taken as it
-    /// is, and `log_is_whole` tells. The connection is given back as it was, and what a stop leaves of it opens as it would have
-    /// before (`LeavesHeld`).
+    /// (`IsFound Foreign`). Then its schema isn't the store's, rowids aren't numbers apart, or the log has more entries than
+    /// there are versions. No database of another is taken, and nothing is written to one. A log whose versions have gaps is
+    /// taken as it is, and `log_is_whole` tells. The connection is given back as it was, and what a stop leaves of it opens as
+    /// it would have before (`LeavesHeld`).
     pub fn adopt(
         alloc: Global,
         mut conn: Connection<A>,

@@ -14,8 +14,8 @@ use Rattle.cs_sql.specs.declared.parts.Part.TheVariants.{Rows, Pending, Meta, Lo
 abbrev pub place_read : Row → StorePlace
 place_read row = (id_in (column row 0), bytes (column row 1))
 
--- the row of an answer is of the catalog's tables: a row or a pending change at its own place, a name of ours, the body of an
--- entry
+-- the row of an answer is of the catalog's tables. It is a row or a pending change at its own place, a name of ours, or the
+-- body of an entry
 abbrev pub ShowsOwn : Part → List TableDef → Row → Type 0
 ShowsOwn Rows tables row = AtTable StoresRow tables (place_read row) (bytes (column row 2))
 ShowsOwn Pending tables row = AtTable StoresChange tables (place_read row) (bytes (column row 2))

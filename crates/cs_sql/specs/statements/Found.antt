@@ -102,8 +102,8 @@ pub record IsFrontKept (trees : Trees) : Type 0 where
   pub meta : IsMapped by_bytes value_pair IsMeta (trees 2)
   pub log : IsMapped int_cmp entry_pair IsLog (trees 4)
 
--- what was found of a log is so: how many entries it has, no more than there are versions, and whether one stands at each version
--- below that number
+-- what was found of a log is so: how many entries it has, no more than there are versions. It says too whether one stands at each
+-- version below that number
 pub record IsLogOf (contents : Contents) (found : LogFound) : Type 0 where
   pub counted : found.entries ≡ log_count contents
   pub whole : IsTrue found.is_whole ↔ HasEachEntry contents

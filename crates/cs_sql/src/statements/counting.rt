@@ -1,4 +1,4 @@
-//! The rowids of a file that was found are read one at a time and shown to be apart, and the entries of its log are counted.
+//! The rowids of a file that was found are read one at a time and shown to be apart. The entries of its log are counted.
 
 ghost use Rattle.std.specs.Prelude.{◌≡◌, ◌↔◌, ◌<◌, ◌≤◌, ◌^◌, ◌&&◌, ◌++◌, [], ◌∷◌, List, false, IsTrue, IfErr, IfOk, IfSome, MatchOption, OnOk};
 ghost use Rattle.std.specs.declared.cmp.Ordering.TheVariants.{Less};
@@ -155,8 +155,8 @@ fn read_ids<S: Alter>(conn: &mut Connection<S>, sql: &str) -> Result<Ids, Error>
     Ok(ids)
 }
 
-/// What is found of the log, if the rowids of each table but `pending` are numbers apart and the log's count fits the versions,
-/// and nothing where that isn't so.
+/// What is found of the log, if the rowids of each table but `pending` are numbers apart and the log's count fits the versions.
+/// It is nothing where that isn't so.
 pub(crate) fn count_front<S: Alter>(conn: &mut Connection<S>) -> Result<Option<LogFound>, Error>
     requires serves { HasCleanDisk (state S.Store conn.old) → Serves (state S.Store conn.old) }
     requires front { HasCleanDisk (state S.Store conn.old) → HasFront (state S.Store conn.old).now.schema }
