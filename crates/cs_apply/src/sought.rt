@@ -1,8 +1,8 @@
 //! The places that are to be looked up next.
 //!
 //! The changes of a changeset are written in no order of their keys, and their places are looked up in that order. So each
-//! place would wait for its change, and then for the change's bytes, to come out of memory: for the places of several groups
-//! they are reached first, in one short loop, where these waits overlap.
+//! place would wait for its change, and then for the change's bytes, to come out of memory. For the places of several
+//! groups they are reached first, in one short loop, where these waits overlap.
 
 ghost use Rattle.std.specs.Prelude.{◌<◌, ◌≤◌, length};
 ghost use Rattle.std.specs.List.{All};
@@ -59,8 +59,8 @@ fn end_of(from: usize, count: usize) -> usize
     }
 }
 
-/// Reaches the first change of each of these groups, at both ends of its bytes, and its place, where that isn't lent by the change, in
-/// one short loop. What was reached is listed, so that it surely is, and isn't looked at.
+/// Reaches, in one short loop, the first change of each of these groups, at both ends of its bytes. It reaches its place too, where
+/// that isn't lent by the change. What was reached is listed, so that it surely is, and isn't looked at.
 // It stands alone, since within a caller of many variables it keeps its own on the stack.
 #[inline(never)]
 fn reach(
