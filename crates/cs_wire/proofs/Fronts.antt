@@ -1,4 +1,4 @@
--- The front of a message that isn't the whole of it is Truncated: there is a message or a fault, and each but Truncated is
+-- The front of a message that isn't the whole of it is Truncated. There is a message or a fault, and each but Truncated is
 -- told of whatever goes on from there.
 use Rattle.std.proofs.Common.{◌≡◌, ◌≢◌, ℕ, ◌<◌, List, [], ◌∷◌, ◌++◌, length, Result, Ok, Err, inl, inr, refl, sym, ap, ◌∙◌, append_assoc, length-append, arith}
 use Rattle.std.specs.List.{flat_map}

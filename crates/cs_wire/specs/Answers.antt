@@ -51,8 +51,8 @@ abbrev pub entries_spelling : ℕ → List ToldEntry → List ℕ
 entries_spelling first entries =
     entries_tag ∷ entries_numbers first (length entries) (flat_map entry_spelling entries)
 
--- the numbers before a changeset that entries make together, and what follows them: who asked, the first entry's place in the
--- log, the place behind the last one, and how many bytes the changeset has
+-- the numbers before a changeset that entries make together, and what follows them. They are who asked, the first entry's
+-- place in the log, the place behind the last one, and how many bytes the changeset has
 abbrev pub merged_numbers : ℕ → ℕ → ℕ → ℕ → List ℕ → List ℕ
 merged_numbers origin first next size rest =
     four_bytes origin ++ (eight_bytes first ++ (eight_bytes next ++ (four_bytes size ++ rest)))

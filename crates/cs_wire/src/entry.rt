@@ -11,8 +11,8 @@ use std::marker::Model;
 /// There is no other.
 const CHANGESET: u8 = 0;
 
-/// An entry of an answer: the kind of what it does, whose push it was, the number that its replica gave it, and the bytes of
-/// what it does. Contracts see it as these four.
+/// An entry of an answer: its kind, whose push it was, the number that its replica gave it, and the bytes of what it does.
+/// Contracts see it as these four.
 #[derive(Drop)]
 pub struct WireEntry<'a> {
     kind: u8,

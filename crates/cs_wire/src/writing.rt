@@ -29,8 +29,8 @@ pub fn entries_head(alloc: Global, first: u64, count: u32) -> Result<Vec<u8>, Me
 /// The first byte of an answer with a changeset that entries make together.
 pub(crate) const MERGED: u8 = 21;
 
-/// An answer to a Catch of this origin, up to where a changeset of so many bytes is to be put: what the entries from `first` on do
-/// together, up to the one at `next`. There is room for the changeset behind it.
+/// An answer to a Catch of this origin, up to where a changeset of so many bytes is to be put. The changeset is what the entries
+/// from `first` on do together, up to the one at `next`. There is room for it behind.
 ///
 /// # Errors
 ///
@@ -54,8 +54,7 @@ pub fn merged_head(
     Ok(out)
 }
 
-/// Appends an entry of an answer, by its parts: the kind of what it does, whose push it was, its number, and the bytes of what
-/// it does.
+/// Appends an entry of an answer, by its parts: its kind, whose push it was, its number, and the bytes of what it does.
 ///
 /// # Errors
 ///
