@@ -1,8 +1,8 @@
-//! Changesets in the format of SQLite's session extension. `read` and `encode` are exact: what is read is spelled by
-//! exactly the bytes that were read, what is refused is spelled by nothing, and the fault and its offset are the
-//! definition's. What is read stays in the bytes that it was read from. `laws` says that bytes spell one changeset, or
-//! have one fault at one place. The crate stands on changes (`cs_change`), whose public items it hands on, and on
-//! records (`cs_record`).
+//! Changesets in the format of SQLite's session extension. `read` and `encode` are exact. What is read is spelled by
+//! exactly the bytes that were read, and what is refused by nothing. The fault and its offset are the definition's.
+//! What is read stays in the bytes that it was read from. `laws` says that bytes spell one changeset, or have one fault
+//! at one place. The crate stands on changes (`cs_change`), whose public items it hands on, and on records
+//! (`cs_record`).
 //! Its tests stand in `cs_changes_tests`.
 //! What names no section of SQLite's documentation is profile of this project.
 #![tactic(auto)]
