@@ -24,8 +24,8 @@ pub fn same_length()
     ensures { SameLength }
 {}
 
-/// The headers that a catalog was made of are headers of the tables of each changeset of that catalog, as those are that
-/// were taken together by it.
+/// The headers that a catalog was made of are headers of the tables of each changeset of that catalog. Changesets that
+/// were taken together by it are such.
 pub fn heads_of_catalog()
     ensures { HeadsOfCatalog }
 {}

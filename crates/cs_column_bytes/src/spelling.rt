@@ -78,7 +78,7 @@ fn put_tables(
 }
 
 /// Appends the spelling of a changeset in normal form, but with the column bytes of the first of these headers that has the
-/// table's name; a table without one has 1 and 0, as in the normal form. An `Err` changes nothing. (SQLite's "changeset
+/// table's name. A table without one has 1 and 0, as in the normal form. An `Err` changes nothing. (SQLite's "changeset
 /// format".)
 pub fn encode(
     alloc: Global,
