@@ -43,7 +43,7 @@ abbrev pub FeedsNext : Option (List ℕ) → Option (List ℕ) → List ℕ → 
 FeedsNext old new before after =
     (piece : List ℕ) × Consumes old new piece × (after ≡ before ++ piece) × (piece ≡ [] → OnSome old (IsAtEnd new))
 
--- what is given is the reader's bytes to their end, which spell a changeset; or their fault is told, memory is wanting, or a
+-- what is given is the reader's bytes to their end, which spell a changeset. Or their fault is told, memory is wanting, or a
 -- read failed
 abbrev pub GivesChangesetFrom : Option (List ℕ) → Option (List ℕ) → Type 0 → Result (List ℕ) StreamFault → Type 0
 GivesChangesetFrom old new failed (Ok given) =

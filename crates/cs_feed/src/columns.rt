@@ -87,7 +87,7 @@ pub fn read_old_on(
     Ok((Span { start, end }, 0))
 }
 
-/// Reads the columns of a new record that are left, beside those of the old one, and tells how far, how many are left then,
+/// Reads the columns of a new record that are left, beside those of the old one. It tells how far, how many are left then,
 /// and where those of the old one stand.
 #[inline(always)]
 pub fn read_new_on(

@@ -52,7 +52,7 @@ impl Feed {
     }
 
     /// Takes the next piece. A fault that the bytes so far have is told at once, whatever may follow, here and at every later
-    /// call; that they end early is no fault yet. Want of memory changes nothing.
+    /// call. That they end early is no fault yet. Want of memory changes nothing.
     pub fn push(&mut self, piece: &[u8]) -> Result<(), CodecFault>
         // The piece has come, where no fault is told.
         ensures taken { OnOk result (self.new ≡ self.old ++ piece.now) }

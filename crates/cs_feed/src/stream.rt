@@ -18,8 +18,7 @@ use thiserror::Error;
 /// How often a read that is interrupted is tried before it counts as failed.
 const READS: u64 = 1 << 40;
 
-/// Why a reader gives no changeset: want of memory, a failed read, or a fault of its bytes and where it is told, in bytes from
-/// the front.
+/// Why a reader gives no changeset: want of memory, a failed read, or a fault of its bytes and its offset.
 #[derive(Debug, Drop, Error)]
 pub enum StreamFault {
     #[error("Memory")]
@@ -130,7 +129,7 @@ fn feed_held<R: BufRead>(reader: &mut R, feed: &mut Feed) -> Result<(), StreamFa
 
 /// Reads a changeset to the reader's end, by what the reader holds at a time.
 pub fn read_from<R: PieceInput>(alloc: Global, reader: &mut R) -> Result<ChangesetBuf, StreamFault>
-    // The bytes to the end are given, which spell a changeset; or their fault is told, at once; or memory is wanting, or a read failed.
+    // The bytes to the end are given, which spell a changeset, or their fault is told, at once. Or memory is wanting, or a read failed.
     ensures { GivesChangesetFrom (R.remaining reader.old) (R.remaining reader.new) (R.failed reader.new) result }
 {
     let mut feed = Feed::new(alloc);
