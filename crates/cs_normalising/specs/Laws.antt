@@ -23,8 +23,8 @@ use Rattle.cs_normalising.specs.NormalFormOf.{AreFit, HaveTables, IsNormalFormOf
 use Rattle.cs_normalising.specs.declared.unfit.Unfit.{Unfit}
 use Rattle.cs_normalising.specs.declared.unfit.Unfit.TheVariants.{Memory}
 
--- the records of an update as read: the key in the old one, and perhaps again in the new one; each modified
--- column in both; any other column perhaps in the old one
+-- the records of an update as read: the key in the old one, and perhaps again in the new one. Each modified column in
+-- both, any other column perhaps in the old one
 pub data LenientUpdate : List Bool → List Value → List Field → List Field → Type 0 where
   no_column : LenientUpdate [] [] [] []
   key_column : (k : Value) {marks : List Bool} {key : List Value} {old new : List Field}
@@ -42,8 +42,8 @@ IsLenient marks key (Insert flag new) = HasKey marks key new
 IsLenient marks key (Delete flag old) = HasKey marks key old
 IsLenient marks key (Update flag old new) = LenientUpdate marks key old new
 
--- the normal form of a change is normal; where the change is defined on a row of its key or none, so is its
--- normal form, with the same row or none
+-- the normal form of a change is normal. Where the change is defined on a row of its key or none, so is its normal
+-- form, and it leaves the same
 abbrev pub NormalFormKeeps : Type 0
 NormalFormKeeps =
     (marks : List Bool) (key : List Value) (change : Change)

@@ -8,7 +8,7 @@ use Rattle.cs_normal.specs.declared.normal.TableChanges.{TableChanges}
 abbrev pub nth_entry : Entries → ℕ → List ℕ × Option Change
 nth_entry entries place = slice_index_or entries place ([], None)
 
--- the table's name, its key columns, and in the order of the keys each key's bytes with the normal form of its change; none: an
+-- the table's name, its key columns, and in the order of the keys each key's bytes with the normal form of its change. None: an
 -- update that changes nothing
 pub record LentForm : Type 0 where
   pub name : List ℕ

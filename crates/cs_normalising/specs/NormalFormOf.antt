@@ -37,7 +37,7 @@ HaveKeys tables groups = All (λ table. AreKeyed table.key_marks (changes_of tab
 abbrev pub AreFit : List TableDef → List Group → Type 0
 AreFit tables groups = HaveTables tables groups × HaveKeys tables groups
 
--- the normal form of a changeset that fits the catalog: a normal changeset of the catalog's tables, in which each
+-- the normal form of a changeset that fits the catalog. It is a normal changeset of the catalog's tables, in which each
 -- table's changes are the normal form of those that were read
 pub record IsNormalFormOf (tables : List TableDef) (groups : List Group) (form : List TableChanges) : Type 0 where
   pub fit : AreFit tables groups

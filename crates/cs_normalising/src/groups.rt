@@ -62,8 +62,8 @@ fn header_fault(
     None
 }
 
-/// How many groups stand before the first whose header is wrong, and what is wrong with it, by the places of the tables'
-/// names where these were sought.
+/// How many groups stand before the first whose header is wrong, and what is wrong with it. Tables are found by the
+/// places of their names where these were sought.
 fn fitting_headers(
     catalog: &Catalog,
     names: Option<&NamePlaces<'_>>,
@@ -226,9 +226,9 @@ fn first_fault(
     Ok(fault)
 }
 
-/// The normal form of a changeset by a catalog, which stays in the bytes of the changeset; or what is wrong with the first
-/// group that is wrong, as `normalise` tells it. `Memory` says nothing of the changeset. (Profile of this project over SQLite's
-/// "changeset format".)
+/// The normal form of a changeset by a catalog, which stays in the bytes of the changeset. An `Err` tells what is wrong with
+/// the first group that is wrong, as `normalise` does. `Memory` says nothing of the changeset. (Profile of this project over
+/// SQLite's "changeset format".)
 pub fn normalise_lent<'b, 'a>(
     alloc: Global,
     catalog: &Catalog,
@@ -257,9 +257,9 @@ pub fn normalise_lent<'b, 'a>(
     }
 }
 
-/// The normal form of a changeset by a catalog: each table's changes over all its groups, one change a key, in the
-/// order of the keys' bytes; or what is wrong with the first group that is wrong. `Memory` says nothing of the
-/// changeset. (Profile of this project over SQLite's "changeset format".)
+/// The normal form of a changeset by a catalog. It has each table's changes over all its groups, one change a key, in
+/// the order of the keys' bytes. An `Err` tells what is wrong with the first group that is wrong. `Memory` says nothing
+/// of the changeset. (Profile of this project over SQLite's "changeset format".)
 pub fn normalise(
     alloc: Global,
     catalog: &Catalog,

@@ -7,8 +7,8 @@ pub fn normal_form_keeps()
     ensures { NormalFormKeeps }
 {}
 
-/// Where each change of a changeset is defined on what the earlier ones left of a state, so is the normal form on the
-/// state itself, and it leaves the same.
+/// Where each change of a changeset is defined on what the earlier ones left of a state, so is the normal form on that
+/// state. It leaves the same.
 pub fn normal_form_leads()
     ensures { NormalFormLeads }
 {

@@ -4,8 +4,8 @@ use cs_change::Change;
 use std::alloc::Global;
 use std::marker::Model;
 
-/// The changes of a table as they were read, over all its groups, in the bytes where they stand: those of its only group, or
-/// those of many groups, gathered.
+/// The changes of a table as they were read, over all its groups, in the bytes where they stand. They are those of its only
+/// group, or those of many groups, gathered.
 #[derive(Drop)]
 pub(crate) struct LentList<'b, 'a> {
     group: &'b [Change<'a>],

@@ -10,7 +10,7 @@ use std::alloc::Global;
 use std::marker::Model;
 
 /// A changeset in normal form, which stays in the bytes where it was read: tables, of each of which a change is left. Contracts
-/// see the changeset that `Normal` is, so what is said of normal changesets is said of it, and there is one of a changeset and a
+/// see the changeset that `Normal` is, so what is said of normal changesets is said of it. There is one of a changeset and a
 /// catalog (`laws::one_normal_form`). (Profile of this project over SQLite's "changeset format".)
 #[derive(Drop)]
 pub struct LentNormal<'b, 'a> {

@@ -29,7 +29,7 @@ pub(crate) struct Ordered<'b, 'a> {
     pub order: KeyOrder,
 }
 
-/// A table's changes in normal form, which stay in the bytes where they were read: each is brought into its normal form
+/// A table's changes in normal form, which stay in the bytes where they were read. Each is brought into its normal form
 /// where it is asked for. Contracts see the normal forms behind their keys, in the order of these.
 #[derive(Drop)]
 pub struct LentTable<'b, 'a> {
@@ -175,7 +175,7 @@ impl<'b, 'a> LentTable<'b, 'a> {
         change_at(self.marks.as_slice(), &self.lent, at)
     }
 
-    /// The change there, in the order of the keys, lent where it was read, if it is found to be its own normal form; else `None`,
+    /// The change there, in the order of the keys, lent where it was read, if it is found to be its own normal form. Else `None`,
     /// and `form` brings it into that.
     #[inline(always)]
     pub fn normal(&self, at: usize) -> Option<&Change<'a>>
@@ -186,8 +186,8 @@ impl<'b, 'a> LentTable<'b, 'a> {
         normal_at(self.marks.as_slice(), &self.lent, at)
     }
 
-    /// The normal form of the change there, in the order of the keys, if one is left: the change itself, in the bytes where it
-    /// was read, where it is in normal form already; else it is made in the room, in place of what is there.
+    /// The normal form of the change there, in the order of the keys, if one is left. It is the change itself, in the bytes
+    /// where it was read, where that is in normal form already. Else it is made in the room, in place of what is there.
     #[inline(always)]
     pub fn form<'c>(
         &'c self,
