@@ -44,7 +44,7 @@ pub(crate) struct Part<'a> {
 }
 
 /// The changes of groups, one group's behind another's, which stay where they are. Beside each stands its group's place in 32 bits, and
-/// nothing else, so that what is asked for out of order is a quarter of what a change's place in memory and a number would take.
+/// nothing else. So what is asked for out of order is a quarter of what a change's place in memory and a number would take.
 #[derive(Drop)]
 pub(crate) struct LentChanges<'a> {
     parts: Vec<Part<'a>>,
