@@ -43,7 +43,7 @@ unfoldable pub keeps_key : List Bool → List Field → Bool
 keeps_key (mark ∷ marks) (field ∷ fields) = not (mark && is_defined field) && keeps_key marks fields
 keeps_key _ _ = true
 
--- what can be asked at a place: a row of the table at its own key, or fields that fit the table and keep the key
+-- what can be asked at a place: a row of the table at its key, or fields that fit the table and keep the key
 abbrev pub IsWantedAt : TableDef → List ℕ → Wanted → Type 0
 IsWantedAt table key (Insert row) = IsRowOf table key row
 IsWantedAt table key (Update fields) =

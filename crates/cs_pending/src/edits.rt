@@ -286,9 +286,9 @@ fn stage<S: RowStore>(
     stage_at(alloc, store, catalog, settling, &place, &wanted)
 }
 
-/// Edits a row of the table with a name, where so many changes are pending: one row and one pending change are written, in one commit.
-/// Returns how many changes are pending then. An edit that changes nothing writes nothing. (What a session would record, by SQLite's
-/// "Session Extension".)
+/// Edits a row of the table with a name, where so many changes are pending. One row and one pending change are written, in one
+/// commit. Returns how many changes are pending then. An edit that changes nothing writes nothing. (What a session would record, by
+/// SQLite's "Session Extension".)
 ///
 /// # Errors
 ///

@@ -34,8 +34,8 @@ pub enum EditFault {
     /// A field at a key column is defined.
     #[error("KeyColumn")]
     KeyColumn = 7,
-    /// The device that keeps the store failed, or what the store holds there is no row or no change of the table, and its count of
-    /// failures rose.
+    /// The device that keeps the store failed, or what the store holds there is no row or no change of the table. The store's
+    /// count of failures rose.
     #[error("Device")]
     Device = 8,
 }

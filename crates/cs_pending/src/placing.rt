@@ -48,8 +48,8 @@ pub struct Standing {
     pub base: Option<RowBuf>,
 }
 
-/// What was found at a place: the row that stands there, if there is one, and where a change is pending, the row or none that stood
-/// there before it. So no row is copied where nothing is pending.
+/// What was found at a place: the row that stands there, if there is one. Where a change is pending, it is also the row or none
+/// that stood there before that. So no row is copied where nothing is pending.
 #[derive(Drop)]
 pub(crate) struct Found {
     mine: Option<RowBuf>,

@@ -28,8 +28,8 @@ changes_at changes = λ name key. change_of name key changes
 abbrev pub base : Option (List TableChanges) → View → State
 base flight view = before (changes_at (flown flight)) (middle view)
 
--- the changes under way are a normal changeset of the tables that a push can carry, and the net changes from the log's rows to
--- those before what is pending
+-- the changes under way are a normal changeset of the tables that a push can carry. They are the net changes from the log's
+-- rows to those before what is pending
 pub record IsUnderWay (tables : List TableDef) (flight : Option (List TableChanges)) (view : View) : Type 0 where
   pub fits : FitsCatalog tables (flown flight)
   pub normal : IsNormalChangeset (flown flight)

@@ -9,8 +9,8 @@ pub fn last_number()
     ensures { LAST_NUMBER ≡ 9223372036854775807 }
 {}
 
-/// What a commit shows whose edits of rows and pending changes make a view, and whose edits of values are those from one
-/// position to another: a replica there.
+/// Where a commit's edits of rows and pending changes make a view, and its values lead to another position, it shows a
+/// replica there.
 pub fn commit_shows()
     ensures { CommitShows }
 {

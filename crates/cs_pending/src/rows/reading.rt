@@ -91,8 +91,8 @@ fn read_rows<S: RowStore>(
     }
 }
 
-/// The rows of the table with this number in the catalog, each behind the bytes of its key and in the order of these; none past the
-/// last table. What the store lists that is no row of the table is told to the store.
+/// The rows of the table with this number in the catalog, each behind the bytes of its key and in the order of these. There are
+/// none past the last table. What the store lists that is no row of the table is told to the store.
 pub fn rows_of<S: RowStore>(
     alloc: Global,
     store: &mut S,
