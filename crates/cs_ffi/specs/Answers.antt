@@ -57,8 +57,8 @@ Hands AreMade IsRefused before after answer =
     ((bytes : List ℕ) × AreMade bytes × IsHanded bytes before after × (answer ≡ read (length bytes)))
     ⊎ (IsRefused answer × (after ≡ before))
 
--- the answer of writing again: the spelling of what was read is handed over and its length told, or nothing is
--- written and it is told why
+-- the answer of writing again. The spelling of what was read is handed over and its length told. Or nothing is written
+-- and it is told why
 abbrev pub AnswersAgain : List ℕ → List ℕ → List ℕ → Answer → Type 0
 AnswersAgain bytes before after answer =
     ((groups : List Group) × Spell bytes groups × IsHanded (changeset_spelling groups) before after

@@ -68,7 +68,7 @@ pub record IsFitInput (declared input : List ℕ) : Type 0 where
 abbrev pub TellsNoFault : Answer → Type 0
 TellsNoFault answer = (answer.fault ≡ 0) ⊎ (answer ≡ no_memory)
 
--- the bytes are the spelling of the normal form of this changeset by a catalog, which has no table without changes; the
+-- the bytes are the spelling of the normal form of this changeset by a catalog, which has no table without changes. The
 -- reader takes them, and they are no more than the changeset's
 pub record SpellForm (tables : List TableDef) (groups : List Group) (bytes : List ℕ) : Type 0 where
   pub normal : List TableChanges

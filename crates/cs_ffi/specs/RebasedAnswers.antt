@@ -68,8 +68,8 @@ pub record NotRebased (blob : List BlobGroup) (alone : List TableChanges) (answe
   pub told : IsRebaseFault fault blob alone
   pub number : answer ≡ rebase_answer fault
 
--- the local bytes and the blob's can be rebased: the local ones can be brought into normal form by the tables of their own
--- headers, each place has one entry at most, and the blob's groups have the shapes of the tables
+-- the local bytes and the blob's can be rebased. The local ones can be brought into normal form by the tables of their own
+-- headers. Each place has one entry at most, and the blob's groups have the shapes of the tables
 pub record CanRebase (local bytes : List ℕ) : Type 0 where
   pub groups : List Group
   pub blob : List BlobGroup

@@ -31,8 +31,8 @@ pub record DeclareTwoOrders (bytes : List ℕ) : Type 0 where
   pub catalog : HaveCatalog (headers (groups ∷ []))
   pub orders : HasTwoOrders (heads_of groups)
 
--- the bytes are the spelling of the normal form of what the input spells, but with the column bytes of the headers that
--- declare its tables; the reader takes them, and they are no more than the input's
+-- the bytes spell the normal form of what the input spells, but with the column bytes of the headers that declare its
+-- tables. The reader takes them, and they are no more than the input's
 pub record SpellForSqlite (declared input bytes : List ℕ) : Type 0 where
   pub tables : List TableDef
   pub groups : List Group

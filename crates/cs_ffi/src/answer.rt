@@ -35,8 +35,8 @@ const WRONG_SHAPE: u32 = 53;
 /// The number of two headers of one table that have its key columns in different orders.
 const KEY_ORDER: u32 = 54;
 
-/// What is told of bytes: the number of their fault, 0 where they were read; the offset of the fault in bytes from the
-/// front, or 0; and how much was read (changes) or is written (bytes), or 0 beside a fault.
+/// What is told of bytes. `fault` is the number of their fault, 0 where they were read. `offset` is that of the fault
+/// in bytes from the front, or 0. `count` is how much was read (changes) or is written (bytes), or 0 beside a fault.
 #[repr(C)]
 #[derive(Clone, Copy, Debug, PartialEq, Eq)]
 pub struct Answer {

@@ -65,7 +65,7 @@ pub extern "C" fn cs_ffi_normalise(
     write_normal(alloc, declared, input, output)
 }
 
-/// Brings a changeset into normal form by the tables that the headers of another declare, and writes it with the column
+/// Brings a changeset into normal form by the tables that the headers of another declare. It writes it with the column
 /// bytes of those headers, for SQLite's own `apply`, into the caller's memory. See `cs_ffi.h`. (Profile of this project
 /// over SQLite's "changeset format".)
 #[unsafe(no_mangle)]

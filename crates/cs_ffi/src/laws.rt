@@ -9,8 +9,8 @@ use cs_group::laws::{no_fault_where_combined, one_combine_fault, one_combined};
 use cs_normalising::laws::{no_fault_where_fit, one_normal_form, one_unfit};
 use cs_rebaser::laws::no_wrong_shape;
 
-/// Two answers of a C function to one input are equal, and so is what stands in the caller's memory after them, unless
-/// one of them tells want of memory.
+/// Unless one of them tells want of memory, two answers of a C function to one input are equal. So is then what stands
+/// in the caller's memory after them.
 pub fn answers()
     ensures { AnswerLaws }
 {

@@ -53,8 +53,8 @@ pub fn hand_over(bytes: &[u8], output: &mut [u8]) -> Answer
     Answer::read(bytes.len())
 }
 
-/// Writes a changeset in normal form to the front of the caller's memory if it has room there, and answers how many bytes it is;
-/// or memory is wanting, and nothing is written.
+/// Writes a changeset in normal form to the front of the caller's memory if it has room there. It answers how many bytes it is,
+/// or that memory is wanting, and nothing is written then.
 pub fn hand_over_normal(alloc: Global, normal: &Normal, output: &mut [u8]) -> Answer
     ensures { Hands (λ bytes. bytes ≡ normal_spelling normal.now) (λ answer. answer ≡ no_memory) output.old output.new result }
 {

@@ -49,7 +49,7 @@ fn bytes_for_sqlite(alloc: Global, declared: &[u8], input: &[u8]) -> Result<Vec<
     Ok(bytes)
 }
 
-/// Brings a changeset into normal form by the tables that the headers of another declare, and writes it with the column
+/// Brings a changeset into normal form by the tables that the headers of another declare. It writes it with the column
 /// bytes of those headers into the caller's memory. Where it has no room there, nothing is written, and the count says
 /// how many bytes it takes. (Profile of this project over SQLite's "changeset format".)
 pub fn write_for_sqlite(alloc: Global, declared: &[u8], input: &[u8], output: &mut [u8]) -> Answer
