@@ -50,10 +50,10 @@ fn sorts(alloc: Global, row: &Words) -> Result<bool, AllocError> {
     Ok(words == expected)
 }
 
-// No word; too few words for a pass, and as many as it takes; words of two passes, too few for two, and too many; words of one wide
-// digit, and of one bit more; words of three passes, and of so many that std's sort does it; words all of one rank; words that don't hold their
-// own places, since two have one place and since a place takes more bits than are told; the most words that go digit by digit; and more
-// words of few ranks, each of which comes often, which are dealt into one bucket and into two.
+// No word. Too few words for a pass, and as many as it takes. Words of two passes, too few for two, and too many. Words of one wide
+// digit, and of one bit more. Words of three passes, and of so many that std's sort does it. Words all of one rank. Words that don't
+// hold their own places, since two have one place and since a place takes more bits than are told. The most words that go digit by
+// digit. More words of few ranks, each of which comes often, which are dealt into one bucket and into two.
 #[test]
 fn sorts_as_std_does(rt: HostRuntime) {
     let rows = [
@@ -125,9 +125,9 @@ fn sort_all(alloc: Global, rows: &[Clusters]) -> Result<bool, AllocError> {
     Ok(all)
 }
 
-// Too few words to note their places, and as many as it takes; no rank left out; as many left out as there are words, and more;
-// words in order already; one rank that comes twice, at the last word; the most words whose places are noted, and one more; and more
-// words, which stand mixed, and which don't.
+// Too few words to note their places, and as many as it takes. No rank left out. As many left out as there are words, and more.
+// Words in order already. One rank that comes twice, at the last word. The most words whose places are noted, and one more.
+// More words, which stand mixed, and which don't.
 const ONCE: [Clusters; 11] = [
     (63, 64, 7, 0),
     (64, 64, 7, 0),
@@ -147,9 +147,9 @@ fn sorts_ranks_that_come_once(rt: HostRuntime) {
     assert!(rt; sort_all(rt.alloc(), &ONCE) == Ok(true));
 }
 
-// Two clusters near one another; two so far apart that they are sections of their own, of words whose places are noted, and of more
-// words, which are dealt; and so many ranks that more of them than words would be left out, which the first words tell alone, and which
-// the later ones do.
+// Two clusters near one another. Two so far apart that they are sections of their own, of words whose places are noted, and of more
+// words, which are dealt. So many ranks that more of them than words would be left out, which the first words tell alone, and
+// which the later ones do.
 const APART: [Clusters; 6] = [
     (10_000, 10_007, 7_919, 20_000),
     (10_000, 10_007, 7_919, 1 << 30),

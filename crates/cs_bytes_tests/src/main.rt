@@ -1,6 +1,6 @@
-//! Tests of bytes and what they spell, by public calls: varints (`cs_varint`), values and records (`cs_value`, `cs_record`), order by words
-//! (`cs_order::digits`, `cs_order`), lines (`cs_lines`), and requests and answers (`cs_wire`). Changesets and values as text (`cs_text`), and faults
-//! of records with their offsets, are rows of `bench/check_tools.sh`.
+//! Tests of bytes and what they spell, by public calls. They are of varints (`cs_varint`), values and records (`cs_value`, `cs_record`),
+//! order by words (`cs_order::digits`, `cs_order`), lines (`cs_lines`), and requests and answers (`cs_wire`). Changesets and values as text
+//! (`cs_text`), and faults of records with their offsets, are rows of `bench/check_tools.sh`.
 #![tactic(auto)]
 
 #[cfg(test)]
