@@ -1,5 +1,5 @@
-//! Edits as calls: refusals that no line can ask for, what an edit writes, and calls that are refused, by the device, for want of memory or
-//! for bytes that are no row, which leave everything. What edits leave one after another is rows of `bench/check_node.sh`.
+//! Edits as calls: refusals that no line can ask for, and what an edit writes. Calls that are refused, by the device, for want of memory or
+//! for bytes that are no row, leave everything. What edits leave one after another is rows of `bench/check_node.sh`.
 
 use cs_map_store::MapStore;
 use cs_pending::outgoing::{Outgoing, gather};
@@ -264,8 +264,8 @@ const NEW_TEXT: &[Option<Cell>] = &[None, Some(Cell::Text("c"))];
 
 const NEW_KEY: &[Option<Cell>] = &[Some(Cell::Int(2)), None];
 
-/// Edits that are refused, each for a reason that goes before another of its own: a table without a name, keys of another width than the
-/// fields, and fields at a key column.
+/// Edits that are refused, each for a reason that goes before another of its own. They name no table, have a wrong width or NULL in the
+/// key, or have a field at a key column.
 const REFUSED: [(Step, EditFault); 7] = [
     (Step::Update("u", PAIR, &[]), EditFault::NoTable),
     (Step::Delete("", PAIR), EditFault::NoTable),

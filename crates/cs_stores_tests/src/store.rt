@@ -1,5 +1,5 @@
-//! Each call over a store in memory, also through a caller that knows no store, beside answers that were written by hand;
-//! and calls that are refused, by the device or for want of memory, which leave everything as it was.
+//! Each call over a store in memory, also through a caller that knows no store, beside answers that were written by hand.
+//! Calls that are refused, by the device or for want of memory, leave everything as it was.
 
 ghost use Rattle.std.specs.Prelude.{◌≡◌, IfErr};
 
@@ -330,8 +330,8 @@ fn are_long(lent: &LentEdits<'_>, numbers: &[u8]) -> bool {
     true
 }
 
-/// Whether long edits come back as they were put, where one is written over another, one stands also at an earlier place, and the
-/// last is taken out.
+/// Whether long edits come back as they were put. One is written over another, one stands also at an earlier place, and the last
+/// is taken out.
 fn gives_long_edits_back(alloc: Global) -> Result<bool, AllocError> {
     let mut made = PlaceEdits::with_capacity(alloc, 2, 0x30_0000)?;
     put_all_long(alloc, &mut made)?;
@@ -390,7 +390,7 @@ fn keeps_the_last(alloc: Global) -> Result<bool, StoreFault> {
     )
 }
 
-/// A commit of one row is made in place until too many bytes would be of rows that are gone, and the leaf is made anew then.
+/// A commit of one row is made in place until too many bytes would be of rows that are gone. Then the leaf is made anew.
 #[test]
 fn many_edits_of_few_keys_leave_the_last_of_each(rt: HostRuntime) {
     assert!(rt; keeps_the_last(rt.alloc()) == Ok(true));
@@ -483,7 +483,7 @@ fn rows_that_come_between_few_of_many_stay_in_order(rt: HostRuntime) {
 /// Behind a third commit there are rows of numbers below this.
 const CHANGED: u16 = SPREAD + 300;
 
-/// The row of this number that a third commit leaves: a whole run of them goes and each third of the others, each third is
+/// The row of this number that a third commit leaves. A whole run of rows goes and each third of the others, each third is
 /// replaced, and some come behind the last.
 fn changed_row(number: u16) -> Option<&'static [u8]> {
     if number >= SPREAD {
