@@ -25,7 +25,8 @@ const UPDATE: [u8; 20] = [
     0x17, 0, 1, 0, 0, 0, 0, 0, 0, 0, 1, 3, 2, 0x76, 0x31, 0, 3, 2, 0x76, 0x32,
 ];
 
-/// The UPDATE of the row with key 1 in `t2`: b from the empty text to the empty blob, c from NULL to the empty text.
+/// The UPDATE of the row with key 1 in `t2`. It sets b from the empty text to the empty blob, c from NULL to the empty
+/// text.
 const WIDE_UPDATE: [u8; 21] = [
     0x17, 0, 1, 0, 0, 0, 0, 0, 0, 0, 1, 3, 0, 5, 0, 0, 4, 0, 3, 0, 0,
 ];

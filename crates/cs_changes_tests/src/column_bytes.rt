@@ -11,8 +11,8 @@ use std::slice;
 /// Headers by table name and column bytes.
 type Spelled<'s> = &'s [(&'s str, &'s [u8])];
 
-/// A changeset that inserts the row 1, 2 into `t1`, whose key's columns stand in turned order, and into `t2`, with the column bytes that came
-/// in, with those of the normal form, and with a 7 of another header of `t2`.
+/// A changeset that inserts the row 1, 2 into `t1`, whose key's columns stand in turned order, and into `t2`. First with the column bytes
+/// that came in, then with those of the normal form, then with a 7 of another header of `t2`.
 const CAME: &[u8] =
     b"\x54\x02\x02\x01t1\0\x12\0\x01\0\0\0\0\0\0\0\x01\x01\0\0\0\0\0\0\0\x02\x54\x02\0\x01t2\0\x12\0\x01\0\0\0\0\0\0\0\x01\x01\0\0\0\0\0\0\0\x02";
 

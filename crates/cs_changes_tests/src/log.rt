@@ -50,7 +50,7 @@ fn is_refused(alloc: Global, bytes: &[u8]) -> bool {
     matches!(body(alloc, bytes), Err(BodyFault::NoBody))
 }
 
-/// No byte, another kind, another table, a key column's mark that is 2 in place of the normal form's 1, one byte too few, and keys that fall.
+/// No byte, another kind, another table, a key column's mark 2 in place of the normal form's 1, one byte too few, keys that fall.
 const NO_BODIES: [&[u8]; 6] = [
     b"",
     b"\x01\x54\x02\x01\0t1\0\x12\0\x01\0\0\0\0\0\0\0\x01\x03\x02v1",

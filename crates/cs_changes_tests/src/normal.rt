@@ -18,8 +18,8 @@ use std::slice;
 /// The header of `t1`.
 const FIRST: &[u8] = b"\x54\x02\x01\0t1\0";
 
-/// INSERTs with the text `v1`: of the keys 1 and 2 into `t1` and of the key 1 into `t2`, in normal form; and so that each table's stand out
-/// of order.
+/// INSERTs with the text `v1`, of the keys 1 and 2 into `t1` and of the key 1 into `t2`. First in normal form, then so that each table's
+/// stand out of order.
 const INSERTS: &[u8] = b"\x54\x02\x01\0t1\0\
     \x12\0\x01\0\0\0\0\0\0\0\x01\x03\x02v1\
     \x12\0\x01\0\0\0\0\0\0\0\x02\x03\x02v1\
@@ -73,8 +73,7 @@ fn are_before_sevens(bytes: &[u8], front: &[u8]) -> bool {
     crate::given::is_joined(bytes, &[front, &[7, 7]])
 }
 
-/// Whether it is written to the front of a slice that is two bytes longer than these bytes, its spelling, and not into one that is a byte
-/// shorter.
+/// Whether it is written to the front of a slice two bytes longer than these bytes, its spelling, and not into one a byte shorter.
 fn is_put(alloc: Global, normal: &Normal, bytes: &[u8]) -> Result<bool, Memory> {
     let mut long = sevens(alloc, bytes.len().saturating_add(2))?;
     let mut short = sevens(alloc, bytes.len().saturating_sub(1))?;

@@ -3,8 +3,8 @@
 use cs_changeset::CodecFault;
 use std::alloc::Global;
 
-/// A changeset: of `t1`, whose key column is marked by 2, an INSERT, an indirect DELETE, and an UPDATE that names its key twice; of `t2`, of
-/// four columns, an UPDATE with each kind of field and one that modifies nothing; and `t1` again, without changes.
+/// A changeset. Of `t1`, whose key column is marked by 2, it has an INSERT, an indirect DELETE, and an UPDATE that names its key twice. Of
+/// `t2`, of four columns, it has an UPDATE with each kind of field and one that modifies nothing. Last comes `t1` again, without changes.
 const CHANGESET: &[u8] = b"\x54\x02\x02\0t1\0\
     \x12\0\x01\0\0\0\0\0\0\0\x01\x03\x02v1\
     \x09\x01\x01\0\0\0\0\0\0\0\x01\x05\
@@ -14,8 +14,8 @@ const CHANGESET: &[u8] = b"\x54\x02\x02\0t1\0\
     \x17\0\x01\0\0\0\0\0\0\0\x01\x03\x02v1\x05\0\0\0\0\0\
     \x54\x02\x01\0t1\0";
 
-/// A blob: of `t1` a change that was answered OMIT and a DELETE that was answered REPLACE, of `t2` a change of no column that was answered
-/// REPLACE, and of `t`, whose one column is marked by 2, a change of NULL.
+/// A blob. Of `t1` it has a change that was answered OMIT and a DELETE that was answered REPLACE. Of `t2` it has a change of no column
+/// that was answered REPLACE. Of `t`, whose one column is marked by 2, it has a change of NULL.
 const BLOB: &[u8] = b"\x54\x02\x01\0t1\0\
     \x12\0\x01\0\0\0\0\0\0\0\x01\x03\x02v2\
     \x09\x01\x01\0\0\0\0\0\0\0\x01\x03\x02v1\

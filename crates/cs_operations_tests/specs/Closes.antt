@@ -14,7 +14,7 @@ use Rattle.cs_apply.specs.declared.applying.Applied.{Applied}
 use Rattle.cs_rebaser.specs.DiamondOfTables.{IsMerged}
 use Rattle.cs_rebaser.specs.Rebased.{rebased}
 
--- the edits lead from what the local changes left to the three-way merge, and the local changes, rebased over the blob, lead
+-- the edits lead from what the local changes left to the three-way merge. The local changes, rebased over the blob, lead
 -- there from what the remote changes leave
 abbrev pub Closes : List TableDef → List TableChanges → List TableChanges → Contents → Applied → Type 0
 Closes tables local remote contents applied =

@@ -122,8 +122,8 @@ fn is_applied(
         && applied.skipped == skipped
 }
 
-/// Rows that stand in a store, a changeset, the answers to its conflicts and the kinds of the first two, the edits that are to be written,
-/// the blob, and how many groups are skipped.
+/// Rows that stand in a store, a changeset, the answers to its conflicts, and the kinds of the first two. Then the edits that are to be
+/// written, the blob, and how many groups are skipped.
 #[derive(Drop)]
 struct Case<'a> {
     rows: &'a [Edit<'a>],
@@ -398,7 +398,8 @@ fn pushes_are_tried(rt: HostRuntime) {
 /// A changeset, and the places of its changes that fit a table: behind or between them a group fits none.
 type Found = (&'static [u8], &'static [(u32, &'static [u8])]);
 
-/// Changes of `t1` and `t3`; two of `t1` at the keys 2 and 1, which lend their keys; and one of `t3`, whose key isn't its first column.
+/// First changes of `t1` and `t3`, then two of `t1` at the keys 2 and 1, which lend their keys. Last one of `t3`, whose key isn't its
+/// first column.
 const FOUND: [Found; 3] = [
     (TWO_FIT, &[(0, ONE), (2, ONE)]),
     (

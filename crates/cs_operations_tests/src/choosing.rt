@@ -1,5 +1,5 @@
-//! Closures whose answers are lawful, each given to a `Chooser`: one that changes what it captures, and one whose answers are
-//! lawful because of what it captures.
+//! Closures whose answers are lawful, each given to a `Chooser`. One changes what it captures, and one has lawful answers
+//! because of what it captures.
 
 ghost use Rattle.std.specs.Prelude.{◌≡◌};
 ghost use Rattle.cs_conflict.specs.Pickers.{IsLawfulAt};

@@ -1,5 +1,5 @@
-//! Changes of a table `t1` with a key column and another one, taken together by the calls that the program doesn't make, taken back, and
-//! the net changes of rows. Sequences as `sync combine` takes them together stand in `bench/check_tools.sh`.
+//! Changes of a table `t1` with a key column and another one. They are taken together by the calls that the program doesn't make, and
+//! taken back. Net changes of rows stand here too. Sequences as `sync combine` takes them together stand in `bench/check_tools.sh`.
 
 ghost use Rattle.std.specs.Prelude.{◌≡◌, true, false, ◌∷◌, [], IfOk, IfSome};
 ghost use Rattle.std.specs.Option.{option_copied};
@@ -228,8 +228,8 @@ fn net_of_is(
     }
 }
 
-/// The texts of the rows, or none, and their net change: the INSERT of (1, 'v2'), the DELETE of (1, 'v1'), none, and the UPDATE of this
-/// to that.
+/// The texts of the rows, or none, and their net change. That is the INSERT of (1, 'v2'), the DELETE of (1, 'v1'), none, and the UPDATE
+/// of this to that.
 const NETS: [(Option<&str>, Option<&str>, &[u8]); 5] = [
     (None, Some("v2"), b"\x12\0\x01\0\0\0\0\0\0\0\x01\x03\x02v2"),
     (Some("v1"), None, b"\x09\0\x01\0\0\0\0\0\0\0\x01\x03\x02v1"),
@@ -347,8 +347,8 @@ const TABLES: &[u8] = b"0123456789";
 
 const TURNED: &[u8] = b"9876543210";
 
-/// Changes of a table, without a header: an INSERT of the row with this key, an UPDATE of that with key 1, and both rows as it leaves
-/// them.
+/// Changes of a table, without a header. They are an INSERT of the row with this key, an UPDATE of that with key 1, and both rows as
+/// it leaves them.
 const INSERT_1_V1: &[u8] = b"\x12\0\x01\0\0\0\0\0\0\0\x01\x03\x02v1";
 
 const INSERT_2_V1: &[u8] = b"\x12\0\x01\0\0\0\0\0\0\0\x02\x03\x02v1";

@@ -1,5 +1,5 @@
-//! Closures whose answers are lawful: one that decides by the kind of the conflict, one by its row, and one that looks into
-//! the local changeset. Each is used through the law `lawful_are_given`: what is applied with it closes the diamond.
+//! Closures whose answers are lawful: one decides by the kind of the conflict, one by its row, and one looks into the local
+//! changeset. Each is used through the law `lawful_are_given`: what is applied with it closes the diamond.
 
 ghost use Rattle.std.specs.Prelude.{◌≡◌, ◌≢◌, IfOk};
 ghost use Rattle.std.specs.Fn.{CalledAt};
@@ -76,7 +76,7 @@ pub fn apply_by_kind<S: RowStore>(
     )
 }
 
-/// By the row: where there is none the change is left out, a row that is too large stops it, and over any other the remote
+/// By the row. Where there is none the change is left out, and a row that is too large stops it. Over any other the remote
 /// change is made.
 pub fn apply_by_row<S: RowStore>(
     alloc: Global,

@@ -1,5 +1,6 @@
-//! Local changes of a table `t1` with a key column and another, and of `t2` with a key column and three others, from bytes to bytes: where
-//! memory is refused, and over the blobs that lawful answers leave. What `sync rebase` shows stands in `bench/check_tools.sh`.
+//! Local changes from bytes to bytes: of `t1` with a key column and another, and of `t2` with a key column and three others. They are
+//! rebased where memory is refused, and over the blobs that lawful answers leave. What `sync rebase` shows stands in
+//! `bench/check_tools.sh`.
 
 ghost use Rattle.cs_change.specs.Spelling.{FitsChangeset};
 

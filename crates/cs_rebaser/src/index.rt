@@ -99,7 +99,7 @@ pub(crate) fn sought_in<'b, 'a>(
     }
 }
 
-/// The entry of a key in a group. The search begins where the last one ended, since keys that are sought rise; it goes on from
+/// The entry of a key in a group. The search begins where the last one ended, since keys that are sought rise. It goes on from
 /// there in growing steps, and then by halves.
 // It stands alone, so that what it holds doesn't weigh on keys that are found at once.
 #[inline(never)]
