@@ -30,7 +30,7 @@ use Rattle.cs_wire.specs.declared.answer.Answer.{Answer}
 use Rattle.cs_wire.specs.declared.answer.Answer.TheVariants.{Short, Entries, Merged}
 use Rattle.cs_wire.specs.declared.short_answer.ShortAnswer.TheVariants as short
 
--- `stands` says that a state of the one stands for a state of the other, and each answer of the first is one of the second
+-- `stands` says that a state of the one stands for one of the other, and each answer of the first is one of the second
 module _ {P Q : Type 0} (picks : P → Clash → Wish → P → Type 0) (sees : Q → Clash → Wish → Q → Type 0) (stands : P → Q → Type 0)
     (follows : (p after : P) (q : Q) (clash : Clash) (wish : Wish) → stands p q → picks p clash wish after → (next : Q) × sees q clash wish next × stands after next) where
   kept : (p after : P) (q : Q) → stands p q → after ≡ p → stands after q

@@ -19,8 +19,8 @@ AreAsked tables lines asks = AllZip (λ line ask. ask_in tables line ≡ Some as
 abbrev pub AreAllAsks : List TableDef → Option (List ℕ) → List Ask → Type 0
 AreAllAsks tables input asks = (lines : List (List ℕ)) × AreAllLines input lines × AreAsked tables lines asks
 
--- why the input isn't read, of which this is left: want of memory; a failed read, or lines without end, where each line before
--- could be read; or the line with this number, from 1 on, is the first that can't be read
+-- why the input isn't read, of which this is left: want of memory, or a failed read or lines without end. Each line before could be read
+-- then. Or the line with this number, from 1 on, is the first that can't be
 abbrev pub IsReadFault : List TableDef → Type 0 → Option (List ℕ) → Option (List ℕ) → ReadFault → Type 0
 IsReadFault tables read_failed input left Memory = Unit {0}
 IsReadFault tables read_failed input left Read =
@@ -38,7 +38,7 @@ abbrev pub TakesAsk : List TableDef → Option Ask → Option (List ℕ) → Opt
 TakesAsk tables None old new = IsAtEnd old × Keeps old new
 TakesAsk tables (Some ask) old new = (line : List ℕ) × TakesLine [] old new line × (ask_in tables line ≡ Some ask)
 
--- why no ask was taken where there is a next line: want of memory, a failed read, or the line, which has this number, can't be read
+-- why no ask was taken where there is a next line: want of memory, a failed read, or the line with this number can't be read
 abbrev pub IsNotTaken : List TableDef → ℕ → Type 0 → Option (List ℕ) → Option (List ℕ) → ReadFault → Type 0
 IsNotTaken tables number read_failed old new Memory = Unit {0}
 IsNotTaken tables number read_failed old new Read = read_failed × StaysInLine old new

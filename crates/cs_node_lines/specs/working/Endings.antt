@@ -45,8 +45,8 @@ BreaksOff (Line number) write_failed old new before text = ⊥
 BreaksOff (Open fault) write_failed old new before text = ⊥
 
 module _ {S : Type 0} (g : Ghosts S) (tables : List TableDef) (id : ℕ) where
-  -- where the store is honest in the end, it was opened as the replica with this id, these steps were made of it with these texts,
-  -- from its count of failures on to that in the end, and it shows what they left
+  -- where the store is honest in the end, it was opened as the replica with this id. These steps were made of it with these texts, from its
+  -- count of failures on to that in the end, and it shows what they left
   pub record Worked {A : Type 0} (step : ℕ → ℕ → Member → A → List ℕ → Member → Type 0) (store last : S) (asked : List A) (texts : List (List ℕ)) : Type 0 where
     pub was_honest : g.honest last → g.honest store
     pub later : g.failed store ≤ g.failed last
@@ -62,7 +62,7 @@ module _ {S : Type 0} (g : Ghosts S) (tables : List TableDef) (id : ℕ) where
     pub refused : g.honest last → IsStoreFault tables id (g.contents store) fault
     pub cause : fault ≡ opening.Device → MoreFailures (g.failed store) (g.failed last)
 
-  -- some of the lines were worked, and the text of the last of them isn't printed whole: memory was refused for it, or the writer failed
+  -- some of the lines were worked. The text of the last of them isn't printed whole: memory was refused for it, or the writer failed
   abbrev pub WorkedUpTo : List Ask → S → S → NodeFault → Type 0 → Option (List ℕ) → Option (List ℕ) → Type 0
   WorkedUpTo asks store last fault write_failed old new =
       (done : List Ask) × (ask : Ask) × (later : List Ask) × (texts : List (List ℕ)) × (text : List ℕ)
