@@ -1,3 +1,4 @@
+pub mod EndedLemmas
 pub mod HexText
 pub mod LineLemmas
 pub mod ReadLemmas

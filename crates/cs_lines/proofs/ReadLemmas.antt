@@ -11,8 +11,10 @@ use Rattle.std.proofs.lemmas.Grind.{common_steps}
 use Rattle.cs_lines.specs.Facts.{stays}
 use Rattle.cs_lines.specs.declared.line.LineRead.{LineRead}
 use Rattle.cs_lines.specs.declared.line.LineRead.TheVariants.{Whole, Skipped, End}
+use Rattle.cs_lines.specs.declared.streams.Skip.{Skip}
+use Rattle.cs_lines.specs.declared.streams.Skip.TheVariants.{Ended, Unended, Nothing}
 use Rattle.cs_lines.specs.Lines.{lines_of}
-use Rattle.std.proofs.KnownBytes.{Consumes-trans}
+use Rattle.std.proofs.KnownBytes.{Consumes-nil, Consumes-trans}
 use Rattle.cs_lines.specs.Reading.{IsCut, StaysInLine, TakesLine, HasRead, HasSkipped}
 use Rattle.cs_lines.proofs.LineLemmas.{first_cut, lines_of-first}
 
@@ -50,12 +52,16 @@ HasRead-end (Some x) (Some y) None front took none end kept = absurd kept
 HasRead-end (Some x) (Some y) (Some z) front took none end kept =
     let same : x ≡ y = took ∙ ap (λ l. l ++ y) none in (same ∙ end, kept ∙ sym same)
 
-pub HasRead-skipped : {E : Type 0} (r : Result LineRead E) (old mid new : Option (List ℕ)) (front line : List ℕ)
-    → Consumes old mid front → IfOk r (λ read. HasSkipped read front mid new) → IfOk r (λ read. HasRead read old new line)
+pub HasRead-behind : (read : LineRead) (old mid new : Option (List ℕ)) (front line : List ℕ) → Consumes old mid front
+    → HasSkipped read front mid new → HasRead read old new line
+HasRead-behind Whole old mid new front line took h = absurd h
+HasRead-behind Skipped old mid new front line took h = (h.0, TakesLine-front old mid new front h.0 took h.1)
+HasRead-behind End old mid new front line took h = HasRead-end old mid new front took h.0 h.1 h.2
+
+pub HasRead-skipped : {E : Type 0} (r : Result (LineRead × Bool) E) (old mid new : Option (List ℕ)) (front line : List ℕ)
+    → Consumes old mid front → IfOk r (λ read. HasSkipped read.0 front mid new) → IfOk r (λ read. HasRead read.0 old new line)
 HasRead-skipped (Err e) old mid new front line took h = tt
-HasRead-skipped (Ok Whole) old mid new front line took h = absurd h
-HasRead-skipped (Ok Skipped) old mid new front line took h = (h.0, TakesLine-front old mid new front h.0 took h.1)
-HasRead-skipped (Ok End) old mid new front line took h = HasRead-end old mid new front took h.0 h.1 h.2
+HasRead-skipped (Ok read) old mid new front line took h = HasRead-behind read.0 old mid new front line took h
 
 -- a front that ends by its only line feed is a line
 pub skipped_ended : (mid : Option (List ℕ)) (front : List ℕ) → StopsAt front 10 → ends_with_byte 10 front ≡ true
@@ -108,29 +114,32 @@ pub some_of_front : (mid : Option (List ℕ)) (front : List ℕ) → 0 < length 
 some_of_front None front some = tt
 some_of_front (Some xs) front some = omega (arith, length-append front xs)
 
-pub some_of_skipped : (mid : Option (List ℕ)) (front : List ℕ) (some : Bool) → some ≡ true
-    → IfSome mid (λ xs. some ≡ true → 0 < length xs) → IfSome mid (λ xs. 0 < length (front ++ xs))
-some_of_skipped None front some is counted = tt
-some_of_skipped (Some xs) front some is counted =
-    let here : 0 < length xs = counted is in omega (arith, length-append front xs)
-
-pub nil_of_empty : (xs : List ℕ) → length xs ≡ 0 → xs ≡ []
-nil_of_empty [] none = refl
-nil_of_empty (x ∷ xs) none = absurd (omega arith)
-
 -- what is gone behind a front without a line feed is of the front's line
 pub stays_behind : (old mid new : Option (List ℕ)) (front : List ℕ) → Consumes old mid front → All (λ x. x ≢ 10) front
     → StaysInLine mid new → StaysInLine old new
 stays_behind old mid new front took none stays =
     (front ++ stays.0, Consumes-trans old mid new front stays.0 took stays.1, StopsAt-append front stays.0 10 none stays.2)
 
--- bytes that are no line feed are gone, and there was one where it says so
-pub record HasPassed (old new : Option (List ℕ)) (some : Bool) : Type 0 where
+-- what is told of bytes without a line feed
+abbrev pub Tells : Skip → List ℕ → Type 0
+Tells Ended gone = ⊥
+Tells Unended gone = 0 < length gone
+Tells Nothing gone = gone ≡ []
+
+-- bytes that are no line feed are gone, and what is told at the end is so of them
+pub record HasPassed (old new : Option (List ℕ)) (told : Skip) : Type 0 where
   pub gone : List ℕ
   pub took : Consumes old new gone
   pub none : All (λ x. x ≢ 10) gone
-  pub there : some ≡ true → 0 < length gone
-  pub absent : some ≡ false → gone ≡ []
+  pub tells : Tells told gone
+
+pub passed_none : (old : Option (List ℕ)) → HasPassed old old Nothing
+passed_none old = record {
+  gone = [];
+  took = Consumes-nil old;
+  none = All-nil (λ x. x ≢ 10);
+  tells = refl;
+}
 
 -- what is said of any refusal
 pub at_err : {T E : Type 0} {P : Type 0} (r : Result T E) → P → OnErr r P
@@ -138,37 +147,36 @@ at_err (Ok x) p = tt
 at_err (Err e) p = p
 
 -- at the end all is gone
-pub passed_end : (old mid new : Option (List ℕ)) (some : Bool) → HasPassed old mid some → IsAtEnd mid → Keeps mid new → DropsThrough old new 10
-passed_end None mid new some has end kept = tt
-passed_end (Some x) None new some has end kept = absurd has.took
-passed_end (Some x) (Some y) None some has end kept = absurd kept
-passed_end (Some x) (Some y) (Some z) some has end kept =
+pub passed_end : (old mid new : Option (List ℕ)) (told : Skip) → HasPassed old mid told → IsAtEnd mid → Keeps mid new → DropsThrough old new 10
+passed_end None mid new told has end kept = tt
+passed_end (Some x) None new told has end kept = absurd has.took
+passed_end (Some x) (Some y) None told has end kept = absurd kept
+passed_end (Some x) (Some y) (Some z) told has end kept =
     let all : drop_through 10 x ≡ drop_through 10 y = ap (λ l. drop_through 10 l) has.took ∙ drop_through-append 10 has.gone y has.none in
     let none : drop_through 10 x ≡ [] = all ∙ ap (λ l. drop_through 10 l) end in
     ap (λ l. Some l) (kept ∙ end ∙ sym none)
 
 -- a line feed is the last that is gone
-pub passed_feed : (old mid new : Option (List ℕ)) (some : Bool) → HasPassed old mid some → Consumes mid new (10 ∷ []) → DropsThrough old new 10
-passed_feed None mid new some has took = tt
-passed_feed (Some x) None new some has took = absurd has.took
-passed_feed (Some x) (Some y) None some has took = absurd took
-passed_feed (Some x) (Some y) (Some z) some has took =
+pub passed_feed : (old mid new : Option (List ℕ)) (told : Skip) → HasPassed old mid told → Consumes mid new (10 ∷ []) → DropsThrough old new 10
+passed_feed None mid new told has took = tt
+passed_feed (Some x) None new told has took = absurd has.took
+passed_feed (Some x) (Some y) None told has took = absurd took
+passed_feed (Some x) (Some y) (Some z) told has took =
     let all : drop_through 10 x ≡ drop_through 10 y = ap (λ l. drop_through 10 l) has.took ∙ drop_through-append 10 has.gone y has.none in
     let rest : drop_through 10 y ≡ z = ap (λ l. drop_through 10 l) took in
     ap (λ l. Some l) (sym (all ∙ rest))
 
-pub passed_line : (old mid new : Option (List ℕ)) (some : Bool) → HasPassed old mid some → Consumes mid new (10 ∷ []) → StaysInLine old new
-passed_line old mid new some has took =
+pub passed_line : (old mid new : Option (List ℕ)) (told : Skip) → HasPassed old mid told → Consumes mid new (10 ∷ []) → StaysInLine old new
+passed_line old mid new told has took =
     stays_behind old mid new has.gone has.took has.none (10 ∷ [], took, All-nil (λ x. x ≢ 10))
 
-pub passed_more : (old mid new : Option (List ℕ)) (some : Bool) (byte : ℕ) → HasPassed old mid some → Consumes mid new (byte ∷ []) → byte ≢ 10
-    → HasPassed old new true
-passed_more old mid new some byte has took other = record {
+pub passed_more : (old mid new : Option (List ℕ)) (told : Skip) (byte : ℕ) → HasPassed old mid told → Consumes mid new (byte ∷ []) → byte ≢ 10
+    → HasPassed old new Unended
+passed_more old mid new told byte has took other = record {
   gone = has.gone ++ byte ∷ [];
   took = Consumes-trans old mid new has.gone (byte ∷ []) has.took took;
   none = All-append (λ x. x ≢ 10) has.gone (byte ∷ []) has.none (All-cons (λ x. x ≢ 10) byte [] other (All-nil (λ x. x ≢ 10)));
-  there = λ _. omega (arith, length-append has.gone (byte ∷ []));
-  absent = λ e. absurd (cc);
+  tells = omega (arith, length-append has.gone (byte ∷ []));
 }
 
 -- a read that ran out of memory, and then failed

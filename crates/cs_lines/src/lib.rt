@@ -16,11 +16,11 @@ mod reply;
 mod serve;
 mod streams;
 
-pub use line::{LineRead, read_line};
+pub use line::{LineRead, read_ended_line, read_line};
 pub use reply::write_hex_line;
 pub use serve::{ASKS, Serve, Stop, serve_lines};
 use std::alloc::AllocError;
-pub use streams::{LineInput, LineOutput, write_text, write_whole};
+pub use streams::{LineInput, LineOutput, Skip, write_text, write_whole};
 
 /// Memory was refused.
 pub type Memory = AllocError;

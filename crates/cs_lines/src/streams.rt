@@ -6,7 +6,7 @@ ghost use Rattle.std.specs.Io.BufRead.{DropsThrough, take_through};
 ghost use Rattle.std.specs.Io.Buffered.{writer_buffer, writer_contents};
 ghost use Rattle.std.specs.Io.KnownBytes.{Appends, Consumes, IsAtEnd, Keeps};
 ghost use Rattle.std.specs.IoError.{error_kind};
-ghost use Rattle.cs_lines.specs.Reading.{StaysInLine};
+ghost use Rattle.cs_lines.specs.Reading.{Skips, StaysInLine};
 ghost use Rattle.cs_lines.specs.Writing.{AppendsFront};
 
 use std::io;
@@ -17,6 +17,17 @@ const WRITES: u64 = 1 << 40;
 
 /// How often a reader is asked for a byte before it counts as failed.
 const READS: u64 = 1 << 40;
+
+/// How a skipped line ended.
+#[derive(Clone, Copy, Debug, PartialEq, Eq)]
+pub enum Skip {
+    /// By a line feed.
+    Ended,
+    /// By the input's end, behind at least a byte.
+    Unended,
+    /// There was no byte.
+    Nothing,
+}
 
 /// What lines are read from. It tells its own failures from want of memory for a line.
 pub trait LineInput: BufRead {
@@ -35,12 +46,11 @@ pub trait LineInput: BufRead {
             (appended_bytes line.old.items line.new.items) }
         ensures failed { IfErr result (λ error. (error_kind error ≡ ErrorKind.OutOfMemory) ⊎ failed self.new) };
 
-    /// Skips up to a line feed and it too, or up to the end, and tells whether there was a byte. It asks for no memory. Where
-    /// a read fails, what was skipped is of this line.
-    fn skip_through(&mut self) -> io::Result<bool>
-        ensures some { IfOk result (λ some. IfSome (Self.remaining self.old) (λ input. some ≡ true → 0 < length input)) }
+    /// Skips up to a line feed and it too, or up to the end, and tells which. It asks for no memory. Where a read fails, what
+    /// was skipped is of this line.
+    fn skip_through(&mut self) -> io::Result<Skip>
+        ensures skipped { IfOk result (λ skip. IfSome (Self.remaining self.old) (Skips skip)) }
         ensures rest { OnOk result (DropsThrough (Self.remaining self.old) (Self.remaining self.new) 10) }
-        ensures end { IfOk result (λ some. some ≡ false → IsAtEnd (Self.remaining self.old)) }
         ensures part { StaysInLine (Self.remaining self.old) (Self.remaining self.new) }
         ensures failed { OnErr result (failed self.new) };
 }
@@ -74,7 +84,7 @@ impl LineInput for &[u8] {
         self.read_until(b'\n', line)
     }
 
-    fn skip_through(&mut self) -> io::Result<bool> {
+    fn skip_through(&mut self) -> io::Result<Skip> {
         skip_bytes(self)
     }
 }
@@ -86,7 +96,7 @@ impl<R: Read> LineInput for BufReader<R> {
         self.read_until(b'\n', line)
     }
 
-    fn skip_through(&mut self) -> io::Result<bool> {
+    fn skip_through(&mut self) -> io::Result<Skip> {
         skip_bytes(self)
     }
 }
@@ -140,20 +150,19 @@ fn next_byte<R: Read>(reader: &mut R) -> io::Result<Option<u8>>
     Err(io::Error::from(ErrorKind::Interrupted))
 }
 
-/// Skips bytes up to a line feed and it too, or up to the end, and tells whether there was one. std's `skip_until` doesn't say
-/// what a failed read leaves.
-fn skip_bytes<R: Read>(reader: &mut R) -> io::Result<bool>
-    ensures some { IfOk result (λ some. IfSome (R.remaining reader.old) (λ input. some ≡ true → 0 < length input)) }
+/// Skips bytes up to a line feed and it too, or up to the end, and tells which. std's `skip_until` doesn't say what a failed read
+/// leaves.
+fn skip_bytes<R: Read>(reader: &mut R) -> io::Result<Skip>
+    ensures skipped { IfOk result (λ skip. IfSome (R.remaining reader.old) (Skips skip)) }
     ensures rest { OnOk result (DropsThrough (R.remaining reader.old) (R.remaining reader.new) 10) }
-    ensures end { IfOk result (λ some. some ≡ false → IsAtEnd (R.remaining reader.old)) }
     ensures part { StaysInLine (R.remaining reader.old) (R.remaining reader.new) }
 {
-    let mut some = false;
+    let mut at_end = Skip::Nothing;
     for _ in 0..u64::MAX {
         match next_byte(reader)? {
-            None => return Ok(some),
-            Some(b'\n') => return Ok(true),
-            Some(_) => some = true,
+            None => return Ok(at_end),
+            Some(b'\n') => return Ok(Skip::Ended),
+            Some(_) => at_end = Skip::Unended,
         }
     }
     Err(io::Error::from(ErrorKind::Interrupted))
