@@ -1,17 +1,19 @@
 -- The part of an input up to its last line feed, and what reads and skips do to it.
-use Rattle.std.proofs.Common.{Bool, ◌≡◌, ◌≢◌, ℕ, suc, ◌+◌, ◌-◌, ◌<◌, true, false, eqb, ◌&&◌, nat_lt, cond, List, [], ◌∷◌, ◌++◌, All, length, take, get_or, refl, sym, ap, ◌∙◌, arith, subst, IfSome, length-append, append_assoc, append-nil, take_all}
-use Rattle.std.specs.Prelude.{Option, Some, None, OnErr, Result, Ok, Err, IfOk}
+use Rattle.std.proofs.Common.{Bool, ◌≡◌, ◌≢◌, ℕ, suc, ◌+◌, ◌-◌, ◌<◌, true, false, eqb, ◌&&◌, nat_lt, cond, List, [], ◌∷◌, ◌++◌, All, length, take, get_or, refl, sym, ap, ◌∙◌, arith, subst, IfSome, length-append, append_assoc, append-nil, take_all, inl, inr}
+use Rattle.std.specs.Prelude.{Option, Some, None, Result, Ok, Err, IfOk, ◌⊎◌}
 use Rattle.std.specs.Io.{StopsAt}
 use Rattle.std.specs.Io.KnownBytes.{Consumes, IsAtEnd, Keeps}
 use Rattle.std.specs.Io.BufRead.{take_through, drop_through, strip_last, ends_with_byte, DropsThrough}
 use Rattle.std.proofs.lemmas.List.{take_more}
-use Rattle.std.proofs.lemmas.List.Elements.{All-nil, All-head, All-tail}
+use Rattle.std.proofs.lemmas.List.Elements.{All-cons, All-nil, All-head, All-tail}
 use Rattle.cs_lines.specs.declared.line.LineRead.{LineRead}
-use Rattle.cs_lines.specs.declared.line.LineRead.TheVariants.{Whole, Skipped, End}
+use Rattle.cs_lines.specs.declared.line.LineRead.TheVariants.{Whole, Skipped}
 use Rattle.cs_lines.specs.declared.streams.Skip.{Skip}
 use Rattle.cs_lines.specs.declared.streams.Skip.TheVariants.{Ended, Unended, Nothing}
-use Rattle.cs_lines.specs.Lines.{ended, ended_part, onto_ended}
-use Rattle.cs_lines.specs.Reading.{HasRead, HasReadEnded, HasSkipped, HasSkippedEnded, Skips, StaysInLine}
+use Rattle.cs_lines.specs.Laws.{EndedByFeed, EndedLines, EndedWhole}
+use Rattle.cs_lines.specs.Lines.{ended, ended_part, lines_of, onto_ended, onto_first}
+use Rattle.cs_lines.specs.Reading.{HasReadEnded, HasSkippedEnded, Skips, StaysInLine}
+use Rattle.cs_lines.proofs.LineLemmas.{lines_of-first}
 use Rattle.cs_lines.proofs.ReadLemmas.{HasPassed, HasRead-behind, Keeps-end, TakesLine-read, Tells, no_line_feed, skipped_ended, skipped_rest}
 
 onto_some : (x : ℕ) (xs : List ℕ) → 0 < length xs → onto_ended x xs ≡ x ∷ xs
@@ -114,6 +116,58 @@ unended_at false x (y ∷ ys) h rest is =
 pub unended : (xs : List ℕ) → ends_with_byte 10 (take_through 10 xs) ≡ false → ended_part xs ≡ []
 unended [] is = refl
 unended (x ∷ xs) is = unended_at (eqb x 10) x xs refl (unended xs) is
+
+-- ---- laws
+
+pub ended_whole : EndedWhole
+ended_whole input is =
+    elim is [
+      | inl none ↦ subst (λ l. ended_part l ≡ l) (sym none) refl
+      | inr feed ↦
+          subst (λ l. ended_part l ≡ input) (append-nil input) (ended_front input [] feed ∙ append-nil input)
+    ]
+
+feed_at : (b : Bool) (x : ℕ) (part : List ℕ) → eqb x 10 ≡ b → (part ≡ []) ⊎ (ends_with_byte 10 part ≡ true)
+    → (onto_ended x part ≡ []) ⊎ (ends_with_byte 10 (onto_ended x part) ≡ true)
+feed_at true x [] h is = let ten : x ≡ 10 = grind arith in inr (rw ten refl)
+feed_at false x [] h is = inl (onto_other (eqb x 10) x refl h)
+feed_at b x (y ∷ ys) h is =
+    elim is [
+      | inl none ↦ absurd (omega (arith, ap (λ l. length l) none))
+      | inr feed ↦ inr (ends_cons x (y ∷ ys) (omega arith) ∙ feed)
+    ]
+
+pub ended_by_feed : EndedByFeed
+ended_by_feed [] = inl refl
+ended_by_feed (x ∷ xs) = feed_at (eqb x 10) x (ended_part xs) refl (ended_by_feed xs)
+
+-- x joins the first of some lines, with or without more behind them
+onto_front : (x : ℕ) (xs : List ℕ) (lines : List (List ℕ)) → 0 < length xs
+    → onto_first x (lines_of xs ++ lines) ≡ onto_first x (lines_of xs) ++ lines
+onto_front x xs lines some = rw (lines_of-first xs some) refl
+
+abbrev HasLines : List ℕ → List ℕ → Type 0
+HasLines input part = (rest : List ℕ) × (input ≡ part ++ rest) × All (λ x. x ≢ 10) rest
+    × (lines_of input ≡ lines_of part ++ lines_of rest)
+
+lines_at : (b : Bool) (x : ℕ) (xs part : List ℕ) → eqb x 10 ≡ b → HasLines xs part → HasLines (x ∷ xs) (onto_ended x part)
+lines_at true x xs part h has =
+    let ten : x ≡ 10 = grind arith in
+    rw (ten, onto_feed part) (has.0, ap (λ l. 10 ∷ l) has.1, has.2, ap (λ l. [] ∷ l) has.3)
+lines_at false x xs [] h has =
+    let other : x ≢ 10 = grind arith in
+    rw (onto_other (eqb x 10) x refl h)
+    (x ∷ has.0, ap (λ l. x ∷ l) has.1, All-cons (λ x. x ≢ 10) x has.0 other has.2, ap (λ l. lines_of (x ∷ l)) has.1)
+lines_at false x xs (y ∷ ys) h has = (
+  has.0,
+  ap (λ l. x ∷ l) has.1,
+  has.2,
+  rw h (ap (onto_first x) has.3 ∙ onto_front x (y ∷ ys) (lines_of has.0) (omega arith)),
+)
+
+pub ended_lines : EndedLines
+ended_lines [] = ([], refl, All-nil (λ x. x ≢ 10), refl)
+ended_lines (x ∷ xs) = lines_at (eqb x 10) x xs (ended_part xs) refl (ended_lines xs)
 
 -- ---- reads
 

@@ -1,7 +1,9 @@
 -- The laws of lines and runs: lines are taken one after another, and have one list of answers.
-use Rattle.std.specs.Prelude.{◌≡◌, ◌≢◌, ◌⊎◌, ℕ, List, [], ◌∷◌, ◌++◌, Option, Some}
+use Rattle.std.specs.Prelude.{◌≡◌, ◌≢◌, ◌⊎◌, ℕ, true, List, [], ◌∷◌, ◌++◌, All, Option, Some}
+use Rattle.std.specs.Io.BufRead.{ends_with_byte}
 use Rattle.std.specs.Io.KnownBytes.{IsAtEnd}
 use Rattle.std.specs.List.{AllByRecursion}
+use Rattle.cs_lines.specs.Lines.{ended_part, lines_of}
 use Rattle.cs_lines.specs.Reading.{AreTaken, TakesLine}
 use Rattle.cs_lines.specs.Served.{Answers, AnswersAll, AreAllLines, no_memory}
 
@@ -24,6 +26,19 @@ abbrev pub LineOrEnd : Type 0
 LineOrEnd =
     (input : List ℕ)
     → ((line : List ℕ) × (rest : List ℕ) × TakesLine [] (Some input) (Some rest) line) ⊎ IsAtEnd (Some input)
+
+-- an input that ends with a line feed, or holds nothing, is its own ended part
+abbrev pub EndedWhole : Type 0
+EndedWhole = (input : List ℕ) → (input ≡ []) ⊎ (ends_with_byte 10 input ≡ true) → ended_part input ≡ input
+
+-- an ended part ends with a line feed, or holds nothing
+abbrev pub EndedByFeed : Type 0
+EndedByFeed = (input : List ℕ) → (ended_part input ≡ []) ⊎ (ends_with_byte 10 (ended_part input) ≡ true)
+
+-- it is a front of its input: no line feed stands behind it, and its lines are the first ones
+abbrev pub EndedLines : Type 0
+EndedLines = (input : List ℕ) → (rest : List ℕ) × (input ≡ ended_part input ++ rest) × All (λ x. x ≢ 10) rest
+    × (lines_of input ≡ lines_of (ended_part input) ++ lines_of rest)
 
 -- at this state each request has one answer, and one state after it
 abbrev pub HasOneAnswer : {State : Type 0} → (State → List ℕ → List ℕ → State → Type 0) → State → Type 0

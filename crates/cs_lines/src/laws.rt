@@ -2,7 +2,7 @@
 
 ghost use Rattle.std.specs.Prelude.{◌≡◌};
 ghost use Rattle.cs_lines.specs.declared.serve.TheConstants.{ASKS};
-ghost use Rattle.cs_lines.specs.Laws.{AllTaken, LineOrEnd, NoneTaken, OneMoreTaken, OneRun};
+ghost use Rattle.cs_lines.specs.Laws.{AllTaken, EndedByFeed, EndedLines, EndedWhole, LineOrEnd, NoneTaken, OneMoreTaken, OneRun};
 
 use crate::serve::Serve;
 
@@ -12,6 +12,13 @@ pub fn lines_taken()
     ensures more { OneMoreTaken }
     ensures all { AllTaken }
     ensures next { LineOrEnd }
+{}
+
+/// An input's ended part ends with its last line feed. Behind that at most one line is left.
+pub fn ended_lines()
+    ensures whole { EndedWhole }
+    ensures feed { EndedByFeed }
+    ensures lines { EndedLines }
 {}
 
 /// How often a reader is asked at most.
