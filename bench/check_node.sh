@@ -624,6 +624,17 @@ for lines in 'edits 2\nedit delete t1 1' 'edits 1'; do
     asks "$lines" unread
     follows "$input" "$output"
 done
+# A last line that no line feed ends does and prints nothing: alone, behind another line, and as the last of several edits.
+for line in 'edit delete t1 1' 'edits 0' place; do
+    follows "$line" ''
+done
+input=''
+output=''
+asks place 'replica 7 version 0 pending 2 flight 0'
+follows "${input}edit delete t1 1" "$output"
+for lines in 'edits 2\nedit delete t1 1' 'edits 2'; do
+    follows "$lines\nedit insert t1 3 t=z" "$(reply unread)"
+done
 input=''
 output=''
 asks dump 'replica 7 version 0 pending 2 flight 0' 'row t1 1 t=v1' 'row t2 1 null 5 x=00'

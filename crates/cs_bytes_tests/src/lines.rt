@@ -1,7 +1,8 @@
 //! Lines over readers and writers, also such that fail, beside answers that were written by hand.
 
 use cs_lines::{
-    LineOutput, LineRead, Memory, Serve, Stop, read_line, serve_lines, write_hex_line, write_whole,
+    LineOutput, LineRead, Memory, Serve, Stop, read_ended_line, read_line, serve_lines,
+    write_hex_line, write_whole,
 };
 use std::alloc::Global;
 use std::io;
@@ -56,6 +57,61 @@ fn reads_lines(rt: HostRuntime) {
         assert!(rt; reads(&mut input, &mut line, text));
     }
     assert!(rt; matches!(read_line(&mut input, &mut line), Ok(LineRead::End)));
+}
+
+// A reader of two pieces, between which a read fails once as for want of memory.
+#[derive(Drop)]
+struct Halting<'a> {
+    front: &'a [u8],
+    rest: &'a [u8],
+    halted: bool,
+}
+
+impl<'a> Read for Halting<'a> {
+    fn read(&mut self, buf: &mut [u8]) -> io::Result<usize> {
+        if !self.front.is_empty() {
+            return self.front.read(buf);
+        }
+        if !self.halted {
+            self.halted = true;
+            return Err(io::Error::from(io::ErrorKind::OutOfMemory));
+        }
+        self.rest.read(buf)
+    }
+}
+
+/// Whether the next line that a line feed ends is whole, and this text.
+fn reads_ended(input: &mut &[u8], line: &mut Vec<u8>, text: &str) -> bool {
+    matches!(read_ended_line(input, line), Ok(LineRead::Whole))
+        && line.as_slice() == text.as_bytes()
+}
+
+/// Whether a line within which memory is refused, and which goes on so, is told as this, and none behind it.
+fn tells_halted(alloc: Global, rest: &[u8], told: LineRead) -> Option<bool> {
+    let halting = Halting {
+        front: b"on",
+        rest,
+        halted: false,
+    };
+    let mut input = BufReader::new(alloc, halting).ok()?;
+    let mut line = Vec::new(alloc);
+    let first = read_ended_line(&mut input, &mut line).ok()?;
+    let second = read_ended_line(&mut input, &mut line).ok()?;
+    Some(first == told && second == LineRead::End)
+}
+
+#[test]
+fn reads_ended_lines(rt: HostRuntime) {
+    let mut input = b"one\n\ntwo".as_slice();
+    let mut line = Vec::new(rt.alloc());
+    for text in ["one", ""] {
+        assert!(rt; reads_ended(&mut input, &mut line, text));
+    }
+    assert!(rt; matches!(read_ended_line(&mut input, &mut line), Ok(LineRead::End)));
+    assert!(rt; tells_halted(rt.alloc(), b"e\n", LineRead::Skipped).unwrap_or(false));
+    assert!(rt; tells_halted(rt.alloc(), b"e\ntwo", LineRead::Skipped).unwrap_or(false));
+    assert!(rt; tells_halted(rt.alloc(), b"e", LineRead::End).unwrap_or(false));
+    assert!(rt; tells_halted(rt.alloc(), b"", LineRead::End).unwrap_or(false));
 }
 
 /// Whether so long a line is written.

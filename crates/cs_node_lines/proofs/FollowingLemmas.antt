@@ -1,4 +1,5 @@
 pub mod Alike
+pub mod Heard
 pub mod Sees
 pub mod Turned
 pub mod Shown

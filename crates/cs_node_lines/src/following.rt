@@ -15,3 +15,4 @@ mod seeing;
 mod several;
 
 pub use follow::follow_on;
+pub use seeing::seen_line;

@@ -13,9 +13,11 @@ mod node;
 mod reply;
 mod working;
 
-pub(crate) use dump::{lines_of, place_of};
+pub(crate) use dump::lines_of;
+pub use dump::{flight_len, place_of};
 pub use fault::NodeFault;
 pub(crate) use names::{store_fault_name, wire_fault_name};
 pub use node::{node_on, work_on};
-pub(crate) use reply::{Reply, put_text};
+pub(crate) use reply::put_text;
+pub use reply::{Reply, write_reply};
 pub(crate) use working::{ROOM, put_heard, work_ask};

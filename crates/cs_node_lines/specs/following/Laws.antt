@@ -1,13 +1,18 @@
 -- The laws of requests that are answered as they come: lines make one list of requests, and each request has one text, and leaves one replica.
-use Rattle.std.specs.Prelude.{◌≡◌, ◌⊎◌, ℕ, List}
+use Rattle.std.specs.Prelude.{◌≡◌, ◌⊎◌, ℕ, List, Option, Result}
 use Rattle.std.specs.List.{AllByRecursion}
-use Rattle.cs_replica.specs.Step.{Member}
+use Rattle.cs_conflict.specs.declared.clash.Clash.{Clash}
+use Rattle.cs_conflict.specs.declared.wish.Wish.{Wish}
+use Rattle.cs_exchange.specs.declared.pulling.fault.AnswerFault.{AnswerFault}
+use Rattle.cs_replica.specs.Step.{Hears, Member}
 use Rattle.cs_replica.specs.Same.{IsSameMember, IsShown}
+use Rattle.cs_replica.specs.declared.told.Told.{Told}
 use Rattle.cs_value.specs.Catalog.{AreTables}
 use Rattle.cs_value.specs.declared.catalog.TableDef.{TableDef}
+use Rattle.cs_wire.specs.declared.answer.Answer.{Answer}
 use Rattle.cs_node_lines.specs.following.FollowStep.{FollowStep}
 use Rattle.cs_node_lines.specs.following.Requests.{AreRequests}
-use Rattle.cs_node_lines.specs.following.Seen.{lacking_text}
+use Rattle.cs_node_lines.specs.following.Seen.{HearsSeeing, lacking_text}
 use Rattle.cs_node_lines.specs.working.Laws.{SaysRefused}
 use Rattle.cs_node_lines.specs.working.LineStep.{InTurn}
 
@@ -21,6 +26,13 @@ OneListOfRequests =
 
 abbrev pub SomeListOfRequests : Type 0
 SomeListOfRequests = (lines : List (List ℕ)) → (requests : List (List (List ℕ))) × (part : List (List ℕ)) × AreRequests lines requests part
+
+-- what is heard of an answer, with the clash that is seen, is heard by those wishes
+abbrev pub SeenIsHeard : Type 0
+SeenIsHeard =
+    (tables : List TableDef) (before after : Member) (answer : Answer) (wishes : List Wish) (result : Result Told AnswerFault) (seen : Option Clash)
+    → HearsSeeing tables before answer wishes result seen after
+    → Hears tables before answer wishes result after
 
 -- the text says nothing of its request, or nothing of the clash at which a wish stopped, for which memory was refused
 abbrev pub SaysNothing : List ℕ → Type 0

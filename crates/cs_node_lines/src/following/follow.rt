@@ -2,6 +2,7 @@
 
 ghost use Rattle.std.specs.Prelude.{◌≡◌, ◌<◌, ◌-◌, ◌^◌, OnErr, OnOk};
 ghost use Rattle.std.specs.Io.KnownBytes.{Appends};
+ghost use Rattle.cs_lines.specs.Lines.{ended};
 ghost use Rattle.cs_lines.specs.Writing.{AppendsFront};
 ghost use Rattle.cs_node_lines.specs.following.Endings.{EndsFollowing};
 ghost use Rattle.cs_node_lines.specs.following.Steps.{FollowsAll, FollowsNext};
@@ -39,7 +40,7 @@ fn follow_next<S: RowStore, R: LineInput, W: LineOutput>(
     writer: &mut W,
 ) -> Result<bool, NodeFault>
     requires { replica.old.catalog ≡ catalog.now }
-    ensures told { FollowsNext S.RowStore result (R.failed reader.new) (W.failed writer.new) (R.remaining reader.old) (R.remaining reader.new)
+    ensures told { FollowsNext S.RowStore result (R.failed reader.new) (W.failed writer.new) (ended (R.remaining reader.old)) (ended (R.remaining reader.new))
         (W.contents writer.old) (W.contents writer.new) replica.old replica.new }
     ensures sent { OnOk result (W.sent writer.old → W.sent writer.new) }
 {
@@ -65,7 +66,7 @@ fn follow<S: RowStore, R: LineInput, W: LineOutput>(
     writer: &mut W,
 ) -> Result<(), NodeFault>
     requires { replica.old.catalog ≡ catalog.now }
-    ensures told { FollowsAll S.RowStore result (R.failed reader.new) (W.failed writer.new) (R.remaining reader.old) (R.remaining reader.new)
+    ensures told { FollowsAll S.RowStore result (R.failed reader.new) (W.failed writer.new) (ended (R.remaining reader.old)) (ended (R.remaining reader.new))
         (W.contents writer.old) (W.contents writer.new) replica.old replica.new }
     ensures sent { OnOk result (W.sent writer.old → W.sent writer.new) }
 {
@@ -83,8 +84,8 @@ fn follow<S: RowStore, R: LineInput, W: LineOutput>(
 
 /// Opens the replica with this id over a store, and works the requests of an input: the text of each and an empty line behind it are printed and
 /// sent before the next is read, and what it commits is committed before. One that can't be read has the text `unread`, also where the input ends
-/// within it, and one for which memory is refused `refused Memory`, with nothing done. An id is at most 4,294,967,294. The store comes back in any
-/// case.
+/// within it, and one for which memory is refused `refused Memory`, with nothing done. What stands behind the last line feed is no line: nothing is
+/// done or printed of it. An id is at most 4,294,967,294. The store comes back in any case.
 ///
 /// # Errors
 ///
@@ -100,8 +101,8 @@ pub fn follow_on<S: RowStore, R: LineInput, W: LineOutput>(
     writer: &mut W,
 ) -> (Result<(), NodeFault>, S)
     requires { id < 2 ^ 32 - 1 }
-    ensures ends { EndsFollowing S.RowStore catalog.now id store result.1 (R.remaining reader.old) (R.remaining reader.new) (R.failed reader.new)
-        (W.failed writer.new) (W.contents writer.old) (W.contents writer.new) result.0 }
+    ensures ends { EndsFollowing S.RowStore catalog.now id store result.1 (ended (R.remaining reader.old)) (ended (R.remaining reader.new))
+        (R.failed reader.new) (W.failed writer.new) (W.contents writer.old) (W.contents writer.new) result.0 }
     ensures sent { OnOk result.0 (W.sent writer.old → W.sent writer.new) }
 {
     let _tables = catalog.tables();

@@ -1,6 +1,6 @@
 //! The laws of requests that are answered as they come, each the contract of a function that does nothing.
 
-ghost use Rattle.cs_node_lines.specs.following.Laws.{SomeListOfRequests, OneFollowRun, OneFollowStep, OneListOfRequests};
+ghost use Rattle.cs_node_lines.specs.following.Laws.{SomeListOfRequests, OneFollowRun, OneFollowStep, OneListOfRequests, SeenIsHeard};
 
 use crate::following::noting::Unwished;
 use crate::working::laws::one_line_step;
@@ -31,3 +31,8 @@ pub fn one_follow_run()
 {
     one_follow_step();
 }
+
+/// What is heard of an answer with the clash that is seen is what the wishes make of it.
+pub fn seen_is_heard()
+    ensures { SeenIsHeard }
+{}

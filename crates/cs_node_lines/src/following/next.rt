@@ -1,6 +1,7 @@
 //! The next request of an input, and what it does.
 
 ghost use Rattle.std.specs.Prelude.{◌≡◌, ℕ, List, [], Option, Some};
+ghost use Rattle.cs_lines.specs.Lines.{ended};
 ghost use Rattle.cs_lines.specs.Reading.{TakesLine};
 ghost use Rattle.cs_node_lines.specs.asks.Several.{several_in};
 ghost use Rattle.cs_node_lines.specs.following.FollowStep.{AskStep};
@@ -13,7 +14,7 @@ use crate::following::looking::look_line;
 use crate::following::seeing::seen_line;
 use crate::following::several::{Gathered, edits_reply, gather_lines};
 use crate::working::{NodeFault, Reply, work_ask};
-use cs_lines::{LineInput, LineRead, read_line};
+use cs_lines::{LineInput, LineRead, read_ended_line};
 use cs_replica::Replica;
 use cs_store::RowStore;
 use cs_value::{Catalog, Memory};
@@ -96,8 +97,8 @@ fn next_several<S: RowStore, R: LineInput>(
     line: &mut Vec<u8>,
 ) -> Result<Next, NodeFault>
     requires { replica.old.catalog ≡ catalog.now }
-    ensures { (input : Option (List ℕ)) → TakesLine [] input (R.remaining reader.old) line.old.items → several_in line.old.items ≡ Some count
-        → Replies S.RowStore result (R.failed reader.new) input (R.remaining reader.new) replica.old replica.new }
+    ensures { (input : Option (List ℕ)) → TakesLine [] input (ended (R.remaining reader.old)) line.old.items → several_in line.old.items ≡ Some count
+        → Replies S.RowStore result (R.failed reader.new) input (ended (R.remaining reader.new)) replica.old replica.new }
 {
     match gather_lines(alloc, catalog, count, reader, line) {
         Ok(Some(gathered)) => Ok(Next::Replied(gathered_reply(alloc, replica, &gathered))),
@@ -116,9 +117,9 @@ pub(crate) fn next_reply<S: RowStore, R: LineInput>(
     line: &mut Vec<u8>,
 ) -> Result<Next, NodeFault>
     requires { replica.old.catalog ≡ catalog.now }
-    ensures { Replies S.RowStore result (R.failed reader.new) (R.remaining reader.old) (R.remaining reader.new) replica.old replica.new }
+    ensures { Replies S.RowStore result (R.failed reader.new) (ended (R.remaining reader.old)) (ended (R.remaining reader.new)) replica.old replica.new }
 {
-    match read_line(reader, line) {
+    match read_ended_line(reader, line) {
         Ok(LineRead::Whole) => match read_several(line.as_slice()) {
             Some(count) => next_several(alloc, replica, catalog, count, reader, line),
             None => match follow_line(alloc, replica, catalog, line.as_slice()) {

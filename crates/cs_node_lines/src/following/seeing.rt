@@ -67,8 +67,12 @@ fn put_seen(
     }
 }
 
-/// Takes an answer of the hub, in its bytes, by wishes.
-pub(crate) fn seen_line<S: RowStore>(
+/// Takes an answer of the hub, in its bytes, by wishes, and gives what is printed of it, with the clash at which a wish stops.
+///
+/// # Errors
+///
+/// `Memory` for the text: what was done stays done.
+pub fn seen_line<S: RowStore>(
     alloc: Global,
     replica: &mut Replica<S>,
     catalog: &Catalog,

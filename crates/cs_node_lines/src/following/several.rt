@@ -1,6 +1,7 @@
 //! Several edits that are one request and one commit.
 
 ghost use Rattle.std.specs.Prelude.{◌≡◌, ◌⊎◌, ◌++◌, ℕ, List, [], ◌∷◌, IfOk, Err};
+ghost use Rattle.cs_lines.specs.Lines.{ended};
 ghost use Rattle.cs_node_lines.specs.asks.Asked.{ask_in};
 ghost use Rattle.cs_node_lines.specs.following.Several.{EditsStep, all_edited_text, edit_asked};
 ghost use Rattle.cs_node_lines.specs.following.Steps.{Gathers, GathersNext, IsGathered};
@@ -12,7 +13,7 @@ ghost use Rattle.cs_pending.specs.declared.fault.EditsFault.TheVariants.{Refused
 use crate::asks::{Ask, read_ask};
 use crate::told::edit_fault_name;
 use crate::working::{NodeFault, Reply};
-use cs_lines::{LineInput, LineRead, read_line};
+use cs_lines::{LineInput, LineRead, read_ended_line};
 use cs_pending::{EditFault, EditsFault};
 use cs_replica::Replica;
 use cs_store::RowStore;
@@ -80,9 +81,9 @@ fn gather_next<R: LineInput>(
     reader: &mut R,
     line: &mut Vec<u8>,
 ) -> Result<Option<Gathered>, NodeFault>
-    ensures { GathersNext catalog.now gathered result (R.failed reader.new) (R.remaining reader.old) (R.remaining reader.new) }
+    ensures { GathersNext catalog.now gathered result (R.failed reader.new) (ended (R.remaining reader.old)) (ended (R.remaining reader.new)) }
 {
-    match read_line(reader, line) {
+    match read_ended_line(reader, line) {
         Ok(LineRead::Whole) => Ok(Some(gather_line(alloc, catalog, line.as_slice(), gathered))),
         Ok(LineRead::Skipped) => Ok(Some(Gathered::Lacking)),
         Ok(LineRead::End) => Ok(None),
@@ -99,7 +100,7 @@ pub(crate) fn gather_lines<R: LineInput>(
     reader: &mut R,
     line: &mut Vec<u8>,
 ) -> Result<Option<Gathered>, NodeFault>
-    ensures { Gathers catalog.now count result (R.failed reader.new) (R.remaining reader.old) (R.remaining reader.new) }
+    ensures { Gathers catalog.now count result (R.failed reader.new) (ended (R.remaining reader.old)) (ended (R.remaining reader.new)) }
 {
     cs_lines::laws::lines_taken();
     let mut gathered = Gathered::Edits(Vec::new(alloc));

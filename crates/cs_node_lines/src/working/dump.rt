@@ -25,7 +25,7 @@ pub(crate) fn lines_of(alloc: Global, table: &Text, rows: &[RowAtKey]) -> Result
 }
 
 /// How many changes are under way.
-fn flight_len<S: RowStore>(replica: &Replica<S>) -> usize
+pub fn flight_len<S: RowStore>(replica: &Replica<S>) -> usize
     ensures { result ≡ flight_count replica.now.position.flight }
 {
     match replica.in_flight() {
@@ -43,7 +43,7 @@ fn line_of(alloc: Global, id: u32, place: PlaceText) -> Result<String, Memory>
 }
 
 /// The line of where a replica stands.
-pub(crate) fn place_of<S: RowStore>(alloc: Global, replica: &Replica<S>) -> Result<String, Memory>
+pub fn place_of<S: RowStore>(alloc: Global, replica: &Replica<S>) -> Result<String, Memory>
     ensures { IfOk result (λ text. string_bytes text ≡ line (replica_text replica.now.position.id replica.now.position)) }
 {
     let id = replica.id();

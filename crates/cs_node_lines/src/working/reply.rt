@@ -11,7 +11,7 @@ use std::io;
 
 /// What is printed of one line. To print it takes no memory.
 #[derive(Drop)]
-pub(crate) enum Reply {
+pub enum Reply {
     /// `ok`
     Done,
     /// `unread`
@@ -51,7 +51,7 @@ pub(crate) fn put_text<W: LineOutput>(writer: &mut W, reply: &Reply) -> io::Resu
 }
 
 /// Writes what is printed of a line, and sends it. Where a write or flush fails, the writer holds a front of it.
-pub(crate) fn write_reply<W: LineOutput>(writer: &mut W, reply: &Reply) -> io::Result<()>
+pub fn write_reply<W: LineOutput>(writer: &mut W, reply: &Reply) -> io::Result<()>
     ensures written { OnOk result (Appends (W.contents writer.old) (W.contents writer.new) (reply_text reply.now)) }
     ensures sent { OnOk result (W.sent writer.new) }
     ensures front { OnErr result (AppendsFront (W.contents writer.old) (W.contents writer.new) (reply_text reply.now)) }

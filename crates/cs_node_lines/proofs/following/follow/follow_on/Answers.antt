@@ -1,3 +1,4 @@
+use Rattle.cs_lines.specs.Lines.{ended}
 use Rattle.cs_node_lines.proofs.FollowingLemmas.Followed.{ends_following}
 use Rattle.cs_node_lines.proofs.WorkingLemmas.Going.{Opened}
 use Rattle.cs_node_lines.proofs.following.follow.follow_on.Goals as goal
@@ -14,5 +15,5 @@ returns-in-Ok-clause-ends g c =
       catalog = c.in-Ok.ensures.of.0;
     } in
     ends_following g.S.RowStore c.args.id c.args.catalog.now c.args.store c.close.result c.follow-ended.result (g.R.LineInput.failed c.follow-ended.new.reader) (g.W.LineOutput.failed c.follow-ended.new.writer)
-    (g.R.Read.remaining c.args.reader.now) (g.R.Read.remaining c.follow-ended.new.reader) (g.W.Write.contents c.args.writer.now) (g.W.Write.contents c.follow-ended.new.writer)
+    (ended (g.R.Read.remaining c.args.reader.now)) (ended (g.R.Read.remaining c.follow-ended.new.reader)) (g.W.Write.contents c.args.writer.now) (g.W.Write.contents c.follow-ended.new.writer)
     c.in-Ok.replica c.follow-ended.new.replica c.close.ensures opened c.follow-ended.ensures.told
