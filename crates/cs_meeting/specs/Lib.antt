@@ -1,0 +1,6 @@
+pub mod Asks
+pub mod Ends
+pub mod Held
+pub mod Laws
+pub mod Steps
+pub mod Turns

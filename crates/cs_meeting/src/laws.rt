@@ -1,0 +1,18 @@
+//! The laws of meetings, each the contract of a function that does nothing.
+
+ghost use Rattle.cs_meeting.specs.Laws.{OneTurn, TurnIsSound};
+
+/// But for want of memory and failed devices the same turn is next in the same world, and comes to the same.
+pub fn one_turn()
+    ensures { OneTurn }
+{
+    cs_world::laws::one_step();
+    cs_world::laws::steps_are_sound();
+}
+
+/// A turn keeps its world sound. So it has the headline (`cs_world::laws::sound_has_headline`).
+pub fn turn_is_sound()
+    ensures { TurnIsSound }
+{
+    cs_world::laws::steps_are_sound();
+}
