@@ -7,7 +7,8 @@ use Rattle.std.proofs.lemmas.Bool.Decides.{same_from_decides}
 use Rattle.std.proofs.lemmas.Slice.Eq.{bytes_eq-Decides}
 use Rattle.std.specs.Str.{bytes_eq}
 use Rattle.clap.specs.Words.{ReadsOne, Row, Text, all_of, first_of, one_of}
-use Rattle.cs_command.specs.CommandLine.{id_at, is_given, node_of, node_wanted, node_with, number_at, over_file, tool_by, tool_of_what, wanted_by, words_in}
+use Rattle.cs_conflict.specs.declared.wish.Wish.{Wish}
+use Rattle.cs_command.specs.CommandLine.{exchange_wanted, exchange_with, id_at, is_given, node_of, node_wanted, node_with, number_at, over_file, tool_by, tool_of_what, wanted_by, wish_in, words_in}
 use Rattle.cs_command.specs.Wanted.{Hub, World}
 use Rattle.cs_tools.specs.declared.tool.Tool.{Tool}
 use Rattle.cs_tools.specs.declared.tool.Tool.TheVariants.{ShowBlob, ShowChangeset}
@@ -78,12 +79,13 @@ pub nothing_asked : (what : Text) → false ≡ bytes_eq what (codes "changeset"
     → None ≡ tool_of_what (Some what)
 nothing_asked what not neither = ap (λ b. cond b (Some ShowBlob) None) neither ∙ not_changeset what not
 
--- what `hub` and `node` ask for
+-- what `hub`, `node` and `exchange` ask for
 pub hub_asked : (name : Text) (rows : List Row) (file : Option Text) → true ≡ bytes_eq name (codes "hub") → file ≡ first_of (codes "FILE") rows
     → Some (Hub file) ≡ wanted_by name rows
 hub_asked name rows file is found =
+    let tools = option_and_then (over_file (first_of (codes "FILE") rows)) (tool_by name rows) in
     let rest = cond (bytes_eq name (codes "world")) (option_map World (number_at (codes "N") rows))
-    (cond (bytes_eq name (codes "node")) (node_wanted rows) (option_and_then (over_file (first_of (codes "FILE") rows)) (tool_by name rows))) in
+    (cond (bytes_eq name (codes "node")) (node_wanted rows) (cond (bytes_eq name (codes "exchange")) (exchange_wanted rows) tools)) in
     ap (λ (f : Option Text). Some (Hub f)) found ∙ ap (λ b. cond b (Some (Hub (first_of (codes "FILE") rows))) rest) is
 
 pub node_has_no_file : (rows : List Row) → None ≡ first_of (codes "FILE") rows → None ≡ node_wanted rows
@@ -96,15 +98,27 @@ node_found rows follows file id given named numbered =
     ∙ ap (λ (f : Option Text). node_with (is_given (codes "follow") rows) f (Some id)) named
     ∙ ap (λ (n : Option ℕ). node_with (is_given (codes "follow") rows) (first_of (codes "FILE") rows) n) numbered
 
+-- one word of `exchange` behind another
+pub exchange_by : (rows : List Row) (wish : Option Wish) (hub file : Option Text) (id : Option ℕ) → wish ≡ wish_in rows → hub ≡ first_of (codes "HUB") rows
+    → file ≡ first_of (codes "FILE") rows → id ≡ id_at rows → exchange_with wish hub file id ≡ exchange_wanted rows
+exchange_by rows wish hub file id wished its named numbered =
+    ap (λ (w : Option Wish). exchange_with w hub file id) wished
+    ∙ ap (λ (h : Option Text). exchange_with (wish_in rows) h file id) its
+    ∙ ap (λ (f : Option Text). exchange_with (wish_in rows) (first_of (codes "HUB") rows) f id) named
+    ∙ ap (λ (n : Option ℕ). exchange_with (wish_in rows) (first_of (codes "HUB") rows) (first_of (codes "FILE") rows) n) numbered
+
 -- what a tool is asked for over
 pub tool_wanted : (name : Text) (rows : List Row) (tool : Tool) (file : Option Text) → false ≡ bytes_eq name (codes "hub") → false ≡ bytes_eq name (codes "world")
-    → false ≡ bytes_eq name (codes "node") → Some tool ≡ tool_by name rows → file ≡ first_of (codes "FILE") rows → over_file file tool ≡ wanted_by name rows
-tool_wanted name rows tool file no_hub no_world no_node is found =
+    → false ≡ bytes_eq name (codes "node") → false ≡ bytes_eq name (codes "exchange") → Some tool ≡ tool_by name rows → file ≡ first_of (codes "FILE") rows
+    → over_file file tool ≡ wanted_by name rows
+tool_wanted name rows tool file no_hub no_world no_node no_exchange is found =
     let run = option_and_then (over_file (first_of (codes "FILE") rows)) (tool_by name rows) in
-    let node = cond (bytes_eq name (codes "node")) (node_wanted rows) run in
+    let exchange = cond (bytes_eq name (codes "exchange")) (exchange_wanted rows) run in
+    let node = cond (bytes_eq name (codes "node")) (node_wanted rows) exchange in
     let world = cond (bytes_eq name (codes "world")) (option_map World (number_at (codes "N") rows)) node in
     ap (λ (f : Option Text). over_file f tool) found
     ∙ ap (λ (t : Option Tool). option_and_then (over_file (first_of (codes "FILE") rows)) t) is
-    ∙ ap (λ b. cond b (node_wanted rows) run) no_node
+    ∙ ap (λ b. cond b (exchange_wanted rows) run) no_exchange
+    ∙ ap (λ b. cond b (node_wanted rows) exchange) no_node
     ∙ ap (λ b. cond b (option_map World (number_at (codes "N") rows)) node) no_world
     ∙ ap (λ b. cond b (Some (Hub (first_of (codes "FILE") rows))) world) no_hub

@@ -7,13 +7,15 @@ use Rattle.clap.specs.Kinds.{Kinds}
 use Rattle.clap.specs.Words.{App, Row, Rule, Text, all_of, first_of, new_app, new_rule, one_of, subcommand_of, with_rule, with_subcommand}
 use Rattle.clap.specs.declared.builder.action.ArgAction.TheVariants.{Append, SetTrue}
 use Rattle.clap.specs.declared.builder.value_parser.ValueParser.TheVariants.{Unsigned}
+use Rattle.cs_conflict.specs.declared.wish.Wish.{Wish}
+use Rattle.cs_conflict.specs.declared.wish.Wish.TheVariants.{Keep, Stop, Take}
 use Rattle.cs_tools.specs.declared.show.Shown.TheVariants.{Blob, Changeset}
 use Rattle.cs_tools.specs.declared.tool.Form.{Form}
 use Rattle.cs_tools.specs.declared.tool.Form.TheVariants.{Normal, Sqlite}
 use Rattle.cs_tools.specs.declared.tool.Tool.{Tool}
 use Rattle.cs_tools.specs.declared.tool.Tool.TheVariants.{Combine, Rebase, ShowBlob, ShowChangeset}
 use Rattle.cs_text.specs.parse.Numbers.{small_in}
-use Rattle.cs_command.specs.Wanted.{Wanted, Hub, World, Node, Follow, Run, ShowFile, CombineFiles}
+use Rattle.cs_command.specs.Wanted.{Wanted, Hub, World, Node, Follow, Exchange, Run, ShowFile, CombineFiles}
 
 -- ---- what the parser takes
 
@@ -43,19 +45,31 @@ file_rule = record (new_rule (codes "FILE")) { required = true }
 abbrev pub id_rule : Rule
 id_rule = record (new_rule (codes "ID")) { required = true; parser = Some (Unsigned 0 (2 ^ 32 - 2)) }
 
--- `--follow`, a flag
-abbrev pub follow_rule : Rule
-follow_rule = record (new_rule (codes "follow")) {
-  long = Some (codes "follow");
+-- `--NAME`, a flag
+abbrev pub flag_rule : Text → Rule
+flag_rule name = record (new_rule name) {
+  long = Some name;
   action = Some SetTrue;
 }
 
 -- `node` before its words
 abbrev pub bare_node_app : App
-bare_node_app = with_rule (new_app (codes "node")) follow_rule
+bare_node_app = with_rule (new_app (codes "node")) (flag_rule (codes "follow"))
 
 abbrev pub node_app : App
 node_app = with_rule (with_rule (with_rule bare_node_app file_rule) id_rule) table_rule
+
+-- `HUB`, which must be there
+abbrev pub hub_rule : Rule
+hub_rule = record (new_rule (codes "HUB")) { required = true }
+
+-- `exchange` before its words, and before those of the replica
+abbrev pub bare_exchange_app : App
+bare_exchange_app =
+    with_rule (with_rule (with_rule (new_app (codes "exchange")) (flag_rule (codes "keep"))) (flag_rule (codes "take"))) (flag_rule (codes "stop"))
+
+abbrev pub exchange_app : App
+exchange_app = with_rule (with_rule (with_rule (with_rule bare_exchange_app hub_rule) file_rule) id_rule) table_rule
 
 -- `WHAT`, which must be there
 abbrev pub what_rule : Rule
@@ -63,13 +77,6 @@ what_rule = record (new_rule (codes "WHAT")) { required = true }
 
 abbrev pub show_app : App
 show_app = with_rule (with_rule (new_app (codes "show")) what_rule) file_option
-
--- `--sqlite`, a flag
-abbrev pub sqlite_rule : Rule
-sqlite_rule = record (new_rule (codes "sqlite")) {
-  long = Some (codes "sqlite");
-  action = Some SetTrue;
-}
 
 -- `--file FILE`, so often as there are files
 abbrev pub files_option : Rule
@@ -79,15 +86,15 @@ files_option = record (new_rule (codes "FILE")) {
 }
 
 abbrev pub combine_app : App
-combine_app = with_rule (with_rule (new_app (codes "combine")) sqlite_rule) files_option
+combine_app = with_rule (with_rule (new_app (codes "combine")) (flag_rule (codes "sqlite"))) files_option
 
 abbrev pub rebase_app : App
-rebase_app = with_rule (new_app (codes "rebase")) sqlite_rule
+rebase_app = with_rule (new_app (codes "rebase")) (flag_rule (codes "sqlite"))
 
 -- the commands that sync, and the tools with them
 abbrev pub syncing_app : App
 syncing_app =
-    with_subcommand (with_subcommand (with_subcommand (new_app (codes "sync")) hub_app.top) node_app.top) world_app.top
+    with_subcommand (with_subcommand (with_subcommand (with_subcommand (new_app (codes "sync")) hub_app.top) node_app.top) exchange_app.top) world_app.top
 
 abbrev pub sync_app : App
 sync_app =
@@ -152,6 +159,26 @@ node_with follows _ _ = None
 abbrev pub node_wanted : List Row → Option Wanted
 node_wanted rows = node_with (is_given (codes "follow") rows) (first_of (codes "FILE") rows) (id_at rows)
 
+-- what is wished at each clash: to stop, where no flag says another thing; none where two flags do
+abbrev pub wish_by : Bool → Bool → Bool → Option Wish
+wish_by true false false = Some Keep
+wish_by false true false = Some Take
+wish_by false false stops = Some Stop
+wish_by true true stops = None
+wish_by true false true = None
+wish_by false true true = None
+
+abbrev pub wish_in : List Row → Option Wish
+wish_in rows = wish_by (is_given (codes "keep") rows) (is_given (codes "take") rows) (is_given (codes "stop") rows)
+
+abbrev pub exchange_with : Option Wish → Option Text → Option Text → Option ℕ → Option Wanted
+exchange_with (Some wish) (Some hub) (Some file) (Some id) = Some (Exchange hub file id wish)
+exchange_with _ _ _ _ = None
+
+-- what the words of `exchange` ask for
+abbrev pub exchange_wanted : List Row → Option Wanted
+exchange_wanted rows = exchange_with (wish_in rows) (first_of (codes "HUB") rows) (first_of (codes "FILE") rows) (id_at rows)
+
 -- what `show` is to show
 abbrev pub tool_of_what : Option Text → Option Tool
 tool_of_what None = None
@@ -190,6 +217,7 @@ wanted_by name rows =
     if bytes_eq name (codes "hub") then Some (Hub (first_of (codes "FILE") rows))
     else if bytes_eq name (codes "world") then option_map World (number_at (codes "N") rows)
     else if bytes_eq name (codes "node") then node_wanted rows
+    else if bytes_eq name (codes "exchange") then exchange_wanted rows
     else option_and_then (over_file (first_of (codes "FILE") rows)) (tool_by name rows)
 
 abbrev pub wanted_in : Option (Text × List Row) → Option Wanted

@@ -3,13 +3,14 @@
 use Rattle.std.specs.Prelude.{◌≡◌, ℕ, List, [], ◌∷◌, Some, None, codes}
 use Rattle.clap.specs.Words.{Text}
 use Rattle.clap.specs.declared.error.kind.ErrorKind.TheVariants as kind
+use Rattle.cs_conflict.specs.declared.wish.Wish.TheVariants.{Keep}
 use Rattle.cs_tools.specs.declared.show.Shown.TheVariants.{Blob, Changeset}
 use Rattle.cs_tools.specs.declared.tool.Form.TheVariants.{Normal, Sqlite}
 use Rattle.cs_tools.specs.declared.tool.Tool.TheVariants.{Combine, Rebase, ShowBlob, ShowChangeset}
 use Rattle.cs_value.specs.declared.catalog.TableDef.{TableDef}
 use Rattle.cs_command.specs.CatalogWords.{IsCatalogOf, IsRefusedAt}
 use Rattle.cs_command.specs.CommandLine.{faults_of, file_words_of, table_words_of, wanted_of}
-use Rattle.cs_command.specs.Wanted.{CombineFiles, Follow, Hub, Node, Run, ShowFile, World}
+use Rattle.cs_command.specs.Wanted.{CombineFiles, Exchange, Follow, Hub, Node, Run, ShowFile, World}
 
 -- table words are one catalog
 abbrev pub OneCatalog : Type 0
@@ -41,6 +42,12 @@ node_words = codes "sync" ∷ codes "node" ∷ codes "f" ∷ codes "7" ∷ codes
 
 abbrev pub follow_words : List Text
 follow_words = codes "sync" ∷ codes "node" ∷ codes "--follow" ∷ codes "f" ∷ codes "7" ∷ codes "t1:10" ∷ []
+
+abbrev pub exchange_words : List Text
+exchange_words = codes "sync" ∷ codes "exchange" ∷ codes "--keep" ∷ codes "h" ∷ codes "f" ∷ codes "7" ∷ codes "t1:10" ∷ []
+
+abbrev pub exchange_two_words : List Text
+exchange_two_words = codes "sync" ∷ codes "exchange" ∷ codes "--keep" ∷ codes "--take" ∷ codes "h" ∷ codes "f" ∷ codes "7" ∷ []
 
 abbrev pub combine_words : List Text
 combine_words = codes "sync" ∷ codes "combine" ∷ []
@@ -96,6 +103,14 @@ AsksForANode = (faults_of node_words ≡ []) × (wanted_of node_words ≡ Some (
 abbrev pub AsksToFollow : Type 0
 AsksToFollow = (faults_of follow_words ≡ []) × (wanted_of follow_words ≡ Some (Follow (codes "f") 7))
     × (table_words_of follow_words ≡ codes "t1:10" ∷ [])
+
+abbrev pub AsksToExchange : Type 0
+AsksToExchange =
+    (faults_of exchange_words ≡ []) × (wanted_of exchange_words ≡ Some (Exchange (codes "h") (codes "f") 7 Keep))
+    × (table_words_of exchange_words ≡ codes "t1:10" ∷ [])
+
+abbrev pub AsksForTwoWishes : Type 0
+AsksForTwoWishes = (faults_of exchange_two_words ≡ []) × (wanted_of exchange_two_words ≡ None)
 
 abbrev pub AsksToCombine : Type 0
 AsksToCombine = (faults_of combine_words ≡ []) × (wanted_of combine_words ≡ Some (Run (Combine Normal)))

@@ -2,11 +2,12 @@
 
 ghost use Rattle.std.specs.Prelude.{◌≡◌, [], ◌<◌, ◌-◌, ◌^◌, IfSome, MatchOption, map, option_map};
 ghost use Rattle.clap.specs.Words.{found_of, rows_of, subcommand_rows_of};
-ghost use Rattle.cs_command.specs.CommandLine.{form_of, files_in, id_among, id_at, is_given, node_wanted, number_at, over_file, shown_tool, tool_by, wanted_by, wanted_in};
+ghost use Rattle.cs_command.specs.CommandLine.{exchange_wanted, form_of, files_in, id_among, id_at, is_given, node_wanted, number_at, over_file, shown_tool, tool_by, wanted_by, wanted_in, wish_in};
 ghost use Rattle.cs_command.specs.Wanted.{HasId, wanted};
 
 use crate::number::number_in;
 use clap::ArgMatches;
+use cs_conflict::Wish;
 use cs_tools::{Form, Shown, Tool};
 
 /// What a command line asks for, beside its table words and lists of files.
@@ -35,6 +36,17 @@ pub enum Asked<'a> {
         file: &'a str,
         /// The replica's id.
         id: u32,
+    },
+    /// A hub and a replica, each over a file, that meet.
+    Exchange {
+        /// The hub's file.
+        hub: &'a str,
+        /// The replica's file.
+        file: &'a str,
+        /// The replica's id.
+        id: u32,
+        /// What is wished at each clash.
+        wish: Wish,
     },
     /// A tool over the input.
     Tool(Tool),
@@ -96,6 +108,39 @@ fn node_asked<'a>(found: &ArgMatches<'a>) -> Option<Asked<'a>>
     } else {
         Some(Asked::Node { file, id })
     }
+}
+
+/// What the flags of `exchange` wish at each clash.
+fn wish_of(found: &ArgMatches<'_>) -> Option<Wish>
+    ensures { result ≡ wish_in (rows_of (found_of found.now)) }
+{
+    match (
+        is_given(found, "keep"),
+        is_given(found, "take"),
+        is_given(found, "stop"),
+    ) {
+        (true, false, false) => Some(Wish::Keep),
+        (false, true, false) => Some(Wish::Take),
+        (false, false, _) => Some(Wish::Stop),
+        _ => None,
+    }
+}
+
+/// The meeting that the words of `exchange` ask for.
+fn exchange_asked<'a>(found: &ArgMatches<'a>) -> Option<Asked<'a>>
+    ensures asked { option_map wanted result ≡ exchange_wanted (rows_of (found_of found.now)) }
+    ensures id { IfSome result HasId }
+{
+    let wish = wish_of(found)?;
+    let hub = found.get_str("HUB")?;
+    let file = found.get_str("FILE")?;
+    let id = id_of(found)?;
+    Some(Asked::Exchange {
+        hub,
+        file,
+        id,
+        wish,
+    })
 }
 
 /// The tool that the words of `show` ask for.
@@ -177,6 +222,8 @@ fn asked_by<'a>(name: &str, found: &ArgMatches<'a>) -> Option<Asked<'a>>
         Some(Asked::World { count })
     } else if name == "node" {
         node_asked(found)
+    } else if name == "exchange" {
+        exchange_asked(found)
     } else {
         let tool = tool_asked(name, found)?;
         over_file(tool, found.get_str("FILE"))

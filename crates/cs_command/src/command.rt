@@ -1,8 +1,8 @@
 //! The command line.
 
-ghost use Rattle.std.specs.Prelude.{◌≡◌, IfOk, IfErr, false, map};
+ghost use Rattle.std.specs.Prelude.{◌≡◌, IfOk, IfErr, codes, false, map};
 ghost use Rattle.clap.specs.Words.{app_of, kind_of, rule_of, subcommand_of, subcommand_rows_of, FailsBy};
-ghost use Rattle.cs_command.specs.CommandLine.{bare_node_app, combine_app, count_rule, faults_of, file_rule, follow_rule, hub_app, id_rule, node_app, rebase_app, show_app, sqlite_rule, sync_app, syncing_app, table_rule, world_app};
+ghost use Rattle.cs_command.specs.CommandLine.{bare_exchange_app, bare_node_app, combine_app, count_rule, exchange_app, faults_of, file_rule, flag_rule, hub_app, hub_rule, id_rule, node_app, rebase_app, show_app, sync_app, syncing_app, table_rule, world_app};
 
 use clap::builder::ValueParser;
 use clap::error::ErrorKind;
@@ -74,21 +74,26 @@ fn id_word<'a>(alloc: Global) -> Arg<'a>
         .help("The replica's id, which no other at its hub has")
 }
 
-fn follow_flag<'a>(alloc: Global) -> Arg<'a>
-    ensures rule { rule_of result ≡ follow_rule }
+/// The flag `--NAME`.
+fn flag<'a>(alloc: Global, name: &'a str, help: &'a str) -> Arg<'a>
+    ensures rule { rule_of result ≡ flag_rule name.entry.now }
     ensures own { result.global ≡ false }
 {
-    Arg::new(alloc, "follow")
-        .long("follow")
+    Arg::new(alloc, name)
+        .long(name)
         .action(ArgAction::SetTrue)
-        .help("Answer each line as it comes, with an empty line behind each answer")
+        .help(help)
 }
 
 /// The subcommand before its words.
 fn bare_node_command<'a>(alloc: Global) -> Result<Command<'a>, AllocError>
     ensures { IfOk result (λ command. app_of command ≡ bare_node_app) }
 {
-    let follow = follow_flag(alloc);
+    let follow = flag(
+        alloc,
+        "follow",
+        "Answer each line as it comes, with an empty line behind each answer",
+    );
     Command::new(alloc, "node")
         .about("Edit, push and pull as a replica of these tables, one line a step")
         .override_usage("sync node [--follow] <FILE> <ID> [TABLE]...")
@@ -103,6 +108,45 @@ fn node_command<'a>(alloc: Global) -> Result<Command<'a>, AllocError>
     let id = id_word(alloc);
     let tables = table_words(alloc);
     command.arg(file)?.arg(id)?.arg(tables)
+}
+
+/// The subcommand with its flags.
+fn bare_exchange_command<'a>(alloc: Global) -> Result<Command<'a>, AllocError>
+    ensures { IfOk result (λ command. app_of command ≡ bare_exchange_app) }
+{
+    let keep = flag(alloc, "keep", "Keep the own change at each clash");
+    let take = flag(alloc, "take", "Take the other's change at each clash");
+    let stop = flag(
+        alloc,
+        "stop",
+        "Stop at a clash and show it, as without a flag",
+    );
+    Command::new(alloc, "exchange")
+        .about("Have a hub and a replica, each in a file, exchange what they have")
+        .override_usage("sync exchange [--keep | --take | --stop] <HUB> <FILE> <ID> [TABLE]...")
+        .arg(keep)?
+        .arg(take)?
+        .arg(stop)
+}
+
+fn hub_word<'a>(alloc: Global) -> Arg<'a>
+    ensures rule { rule_of result ≡ hub_rule }
+    ensures own { result.global ≡ false }
+{
+    Arg::new(alloc, "HUB")
+        .required(true)
+        .help("The hub's file, which is made where there is none")
+}
+
+fn exchange_command<'a>(alloc: Global) -> Result<Command<'a>, AllocError>
+    ensures { IfOk result (λ command. app_of command ≡ exchange_app) }
+{
+    let command = bare_exchange_command(alloc)?;
+    let hub = hub_word(alloc);
+    let file = file_word(alloc);
+    let id = id_word(alloc);
+    let tables = table_words(alloc);
+    command.arg(hub)?.arg(file)?.arg(id)?.arg(tables)
 }
 
 fn show_command<'a>(alloc: Global) -> Result<Command<'a>, AllocError>
@@ -123,14 +167,16 @@ fn show_command<'a>(alloc: Global) -> Result<Command<'a>, AllocError>
         .arg(file)
 }
 
+/// What `combine` and `rebase` may write.
 fn sqlite_flag<'a>(alloc: Global) -> Arg<'a>
-    ensures rule { rule_of result ≡ sqlite_rule }
+    ensures rule { rule_of result ≡ flag_rule (codes "sqlite") }
     ensures own { result.global ≡ false }
 {
-    Arg::new(alloc, "sqlite")
-        .long("sqlite")
-        .action(ArgAction::SetTrue)
-        .help("Write the column bytes that came in, as SQLite applies them")
+    flag(
+        alloc,
+        "sqlite",
+        "Write the column bytes that came in, as SQLite applies them",
+    )
 }
 
 fn combine_command<'a>(alloc: Global) -> Result<Command<'a>, AllocError>
@@ -171,9 +217,11 @@ fn syncing_command<'a>(alloc: Global) -> Result<Command<'a>, AllocError>
     let one = sync.subcommand(hub)?;
     let node = node_command(alloc)?;
     let two = one.subcommand(node)?;
+    let exchange = exchange_command(alloc)?;
+    let three = two.subcommand(exchange)?;
     let world = world_command(alloc)?;
-    let three = two.subcommand(world)?;
-    Ok(three)
+    let four = three.subcommand(world)?;
+    Ok(four)
 }
 
 /// All commands.

@@ -1,7 +1,7 @@
 //! The laws of the program, and what some command lines ask for, by computation: each is the contract of a function
 //! that does nothing.
 
-ghost use Rattle.cs_command.specs.Laws.{AsksForAFile, AsksForAHub, AsksForANode, AsksForAWorld, AsksForHelp, AsksForNothing, AsksToCombine, AsksToCombineFiles, AsksToCombineForSqlite, AsksToFollow, AsksToRebase, AsksToRebaseForSqlite, AsksToShow, AsksToShowABlobFile, AsksToShowAFile, AsksToShowBlob, IsNotTaken, NoCatalogRefused, OneCatalog, OneRefusedWord};
+ghost use Rattle.cs_command.specs.Laws.{AsksForAFile, AsksForAHub, AsksForANode, AsksForAWorld, AsksForHelp, AsksForNothing, AsksForTwoWishes, AsksToCombine, AsksToCombineFiles, AsksToCombineForSqlite, AsksToExchange, AsksToFollow, AsksToRebase, AsksToRebaseForSqlite, AsksToShow, AsksToShowABlobFile, AsksToShowAFile, AsksToShowBlob, IsNotTaken, NoCatalogRefused, OneCatalog, OneRefusedWord};
 
 /// Table words are one catalog.
 pub fn one_catalog()
@@ -41,6 +41,17 @@ pub fn asks_for_a_node()
 /// `sync node --follow f 7 t1:10` is taken and asks for that replica, which answers each line as it comes.
 pub fn asks_to_follow()
     ensures { AsksToFollow }
+{}
+
+/// `sync exchange --keep h f 7 t1:10` is taken and asks for the hub over the file `h` and the replica 7 over the file `f` to meet, where own
+/// changes are kept.
+pub fn asks_to_exchange()
+    ensures { AsksToExchange }
+{}
+
+/// `sync exchange --keep --take h f 7` is taken and asks for nothing.
+pub fn asks_for_two_wishes()
+    ensures { AsksForTwoWishes }
 {}
 
 /// `sync combine` is taken and asks to combine.

@@ -9,7 +9,7 @@ use Rattle.clap.specs.declared.error.kind.ErrorKind.TheVariants as kind
 use Rattle.sync_cli.specs.Endings.{EndsRefused, EndsUntaken, LacksMemory, told_as}
 use Rattle.sync_cli.specs.Streams.{Streams}
 use Rattle.sync_cli.specs.declared.fault.RunFault.{RunFault}
-use Rattle.sync_cli.specs.declared.fault.RunFault.TheVariants.{CommandLine, Line, Lines, Memory, Open, Read, Table, Write}
+use Rattle.sync_cli.specs.declared.fault.RunFault.TheVariants.{CommandLine, Hub, Line, Lines, Memory, NotAtRest, Open, Read, Table, Write}
 
 -- streams of which what is written alone counts
 abbrev pub writes : Type 0 → Option (List ℕ) → Option (List ℕ) → Streams
@@ -34,6 +34,8 @@ untaken kinds why failed old new (Err (Table word)) has ends = absurd ends.1
 untaken kinds why failed old new (Err Read) has ends = absurd ends.1
 untaken kinds why failed old new (Err (Line number)) has ends = absurd ends.1
 untaken kinds why failed old new (Err (Open fault)) has ends = absurd ends.1
+untaken kinds why failed old new (Err (Hub fault)) has ends = absurd ends.1
+untaken kinds why failed old new (Err NotAtRest) has ends = absurd ends.1
 untaken kinds why failed old new (Err (Lines fault)) has ends = absurd ends.1
 
 help_or_memory : (why : ErrorKind) → why ≡ kind.DisplayHelp → why ≡ kind.OutOfMemory → ⊥
@@ -52,6 +54,8 @@ not_begun [] why failed old new (Err (Table word)) none (inl memory) ends = absu
 not_begun [] why failed old new (Err Read) none (inl memory) ends = absurd ends.1
 not_begun [] why failed old new (Err (Line number)) none (inl memory) ends = absurd ends.1
 not_begun [] why failed old new (Err (Open fault)) none (inl memory) ends = absurd ends.1
+not_begun [] why failed old new (Err (Hub fault)) none (inl memory) ends = absurd ends.1
+not_begun [] why failed old new (Err NotAtRest) none (inl memory) ends = absurd ends.1
 not_begun [] why failed old new (Err (Lines fault)) none (inl memory) ends = absurd ends.1
 
 -- what is so where a part of the run was done is so where the run was

@@ -1,10 +1,11 @@
 //! Why a run ends early.
 
 ghost use Rattle.std.specs.Prelude.{◌≡◌};
-ghost use Rattle.sync_cli.specs.Faults.{of_node, of_reading, of_script, of_serving, of_store, of_table, of_tool};
+ghost use Rattle.sync_cli.specs.Faults.{of_meeting, of_node, of_reading, of_script, of_serving, of_store, of_table, of_tool};
 ghost use Rattle.sync_cli.specs.declared.fault.RunFault.TheVariants.{Memory as NoMemory};
 
 use cs_command::TableFault;
+use cs_meeting::MeetingFault;
 use cs_node_lines::asks::ReadFault;
 use cs_node_lines::hub::ServingFault;
 use cs_node_lines::working::NodeFault;
@@ -38,6 +39,12 @@ pub enum RunFault<'w> {
     /// The store isn't opened, or is another's.
     #[error("{0}")]
     Open(OpenFault),
+    /// The hub's store isn't opened, or is another's, where a replica meets it.
+    #[error("hub {0}")]
+    Hub(OpenFault),
+    /// The replica that met its hub isn't at rest.
+    #[error("not at rest")]
+    NotAtRest,
     /// What is wrong with the lines that a tool read.
     #[error("{0}")]
     Lines(ToolFault),
@@ -123,6 +130,19 @@ impl<'w> From<NodeFault> for RunFault<'w> {
             NodeFault::Write => RunFault::Write,
             NodeFault::Line(number) => RunFault::Line(number),
             NodeFault::Open(why) => RunFault::Open(why),
+        }
+    }
+}
+
+impl<'w> From<MeetingFault> for RunFault<'w> {
+    ghost from_gives = { λ fault told. told ≡ of_meeting fault };
+
+    fn from(fault: MeetingFault) -> RunFault<'w> {
+        match fault {
+            MeetingFault::Memory => RunFault::Memory,
+            MeetingFault::Write => RunFault::Write,
+            MeetingFault::Hub(why) => RunFault::Hub(why),
+            MeetingFault::Replica(why) => RunFault::Open(why),
         }
     }
 }

@@ -1,8 +1,8 @@
-//! The program `sync`: a hub over memory or a file and a replica over a file, each worked by lines. It has also worlds that run
-//! scripts, and tools for changesets.
+//! The program `sync`: a hub over memory or a file and a replica over a file, each worked by lines, or both over files that
+//! exchange what they have. It has also worlds that run scripts, and tools for changesets.
 //!
-//! It only wires `cs_command` for the command line, `cs_node_lines`, `cs_script` and `cs_tools` for what is asked for, and `cs_map_store`
-//! and `cs_sql` for the stores. `run` carries the promise, end by end (`specs/Endings.antt`, `specs/OverFiles.antt`): what the words ask
+//! It only wires `cs_command` for the command line, `cs_node_lines`, `cs_meeting`, `cs_script` and `cs_tools` for what is asked for, and
+//! `cs_map_store` and `cs_sql` for the stores. `run` carries the promise, end by end (`specs/Endings.antt`, `specs/OverFiles.antt`): what the words ask
 //! for was done, over the tables that they spell, or why not. The words that are refused are those that name no catalog or that the command
 //! line doesn't take. `tell_end` turns each end into its status.
 //!
@@ -12,6 +12,7 @@
 //! `bench/check_sessions.sh` and `bench/check_files.sh`. What names no section of SQLite's documentation is profile of this project.
 #![tactic(auto)]
 
+mod exchange;
 mod fault;
 mod hub;
 mod node;

@@ -32,12 +32,15 @@ pub trait Opener {
     /// The store in the file at a path, which is made where there is none.
     fn open(&mut self, path: &str) -> Result<Self::Store, StoreFault>
         ensures gave { IfOk result (λ store. gave self.new path.now store) }
-        ensures refused { IfErr result (λ fault. refused self.new path.now fault) };
+        ensures refused { IfErr result (λ fault. refused self.new path.now fault) }
+        ensures kept { (path : List ℕ) (one : Self.Store) → gave self.old path one → gave self.new path one };
 
     /// Lets a store go.
     fn close(&mut self, store: Self::Store)
         ensures took { took self.new store }
-        ensures kept { (path : List ℕ) (one : Self.Store) → gave self.old path one → gave self.new path one };
+        ensures kept { (path : List ℕ) (one : Self.Store) → gave self.old path one → gave self.new path one }
+        ensures told { (path : List ℕ) (fault : Fault) → refused self.old path fault → refused self.new path fault }
+        ensures still { (one : Self.Store) → took self.old one → took self.new one };
 }
 
 /// Opens files of the file system.

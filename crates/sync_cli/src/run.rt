@@ -10,6 +10,7 @@ ghost use Rattle.sync_cli.specs.Endings.{EndsHelping, EndsRefused, EndsUnasked, 
 ghost use Rattle.sync_cli.specs.OverFiles.{EndsAsked, EndsWanted};
 ghost use Rattle.sync_cli.specs.Streams.{streams_of};
 
+use crate::exchange::exchange_files;
 use crate::fault::RunFault;
 use crate::hub::serve_asked;
 use crate::node::{follow_file, work_file};
@@ -92,6 +93,12 @@ fn run_asked<'w, O: Opener + InputFiles, R: LineInput, W: LineOutput>(
         Asked::Follow { file, id } => {
             follow_file(alloc, opener, file, *id, &catalog, reader, writer)
         }
+        Asked::Exchange {
+            hub,
+            file,
+            id,
+            wish,
+        } => exchange_files(alloc, opener, hub, file, *id, *wish, &catalog, writer),
         Asked::Tool(_) | Asked::ShowFile { .. } | Asked::CombineFiles(_) => {
             Err(RunFault::CommandLine)
         }

@@ -12,4 +12,4 @@ returns-then-eq-clause-asked c =
 pub returns-in_ok-tool-clause-asked : goal.returns-in_ok-tool-clause-asked
 returns-in_ok-tool-clause-asked c =
     let inner = found_of c.args.found.now in
-    c.over_file.ensures.asked ∙ tool_wanted c.args.name.now (rows_of inner) c.in_ok-tool.tool _ c.if-eq.ensures c.if-eq-2.ensures c.if-eq-3.ensures c.in_ok-tool.ensures (c.get_str.ensures ∙ first_value-rows inner (codes "FILE"))
+    c.over_file.ensures.asked ∙ tool_wanted c.args.name.now (rows_of inner) c.in_ok-tool.tool _ c.if-eq.ensures c.if-eq-2.ensures c.if-eq-3.ensures c.if-eq-4.ensures c.in_ok-tool.ensures (c.get_str.ensures ∙ first_value-rows inner (codes "FILE"))

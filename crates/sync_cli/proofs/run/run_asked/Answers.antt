@@ -12,3 +12,6 @@ returns-in-Node-clause-ends g c = rw c.in-Node.is (inl (c.in_ok-catalog.catalog,
 
 pub returns-in-Follow-clause-ends : goal.returns-in-Follow-clause-ends
 returns-in-Follow-clause-ends g c = rw c.in-Follow.is (inl (c.in_ok-catalog.catalog, c.in_ok-catalog.ensures.ok, c.follow_file.ensures.ends))
+
+pub returns-in-Exchange-clause-ends : goal.returns-in-Exchange-clause-ends
+returns-in-Exchange-clause-ends g c = rw c.in-Exchange.is (inl (c.in_ok-catalog.catalog, c.in_ok-catalog.ensures.ok, c.exchange_files.ensures.ends))
