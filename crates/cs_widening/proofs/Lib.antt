@@ -1,0 +1,5 @@
+mod Applied
+mod Bytes
+mod Cans
+mod OnePlace
+mod States
