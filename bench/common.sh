@@ -44,14 +44,21 @@ heap_library() {
     echo "$(toolchain)/c/liblibc_c.a"
 }
 
-# Proves and builds the library, where none was given.
+# The toolchain's C part for the system, of which SQLite's engine names the number of an error.
+system_library() {
+    echo "$(toolchain)/c/libos_c.a"
+}
+
+# Proves and builds the library of a crate, where none was given: build_library [CRATE], of cs_ffi where none is named.
 build_library() {
+    local of="${1:-cs_ffi}"
     [ -z "$library" ] || return 0
-    (cd "$crate" && rt lib > "$out/rt_lib.log" 2>&1) || {
-        echo "the library isn't built: see $out/rt_lib.log" >&2
+    mkdir -p "$out"
+    (cd "$bench/../crates/$of" && rt lib > "$out/rt_lib_$of.log" 2>&1) || {
+        echo "the library isn't built: see $out/rt_lib_$of.log" >&2
         return 1
     }
-    library="$crate/out/libcs_ffi.a"
+    library="$bench/../crates/$of/out/lib$of.a"
 }
 
 # The program that runs the drawn cases by the library: where the gate or an earlier run left it, else it is proved and built.
@@ -65,23 +72,26 @@ need_runner() {
     }
 }
 
-# Checks the library's own crate once more, and builds the library, over the crates below as `rt ci` has just proved and left them, as that builds its
+# Checks the crate of a library once more, and builds the library, over the crates below as `rt ci` has just proved and left them, as that builds its
 # programs. `rt lib` takes none of those, and proves each of them again. BEGUN is a file written as `rt ci` began: where what stands of a crate is older,
-# `rt ci` has put back what it found there, which may be of other sources, and nothing is built: build_library_behind_gate BEGUN
+# `rt ci` has put back what it found there, which may be of other sources, and nothing is built: build_library_behind_gate BEGUN CRATE
 build_library_behind_gate() {
-    local begun="$1" kit crates below
+    local begun="$1" of="$2" kit crates below
     kit="$(toolchain)" || return 1
     crates="$(cd "$bench/../crates" && pwd)"
-    set -- --crate-name cs_ffi src/lib.rt --crate-type staticlib --jobs 1 --extern "std=$kit/rlibs/std.rlib" -L "dependency=$kit/rlibs"
+    set -- --crate-name "$of" src/lib.rt --crate-type staticlib --jobs 1 --extern "std=$kit/rlibs/std.rlib" -L "dependency=$kit/rlibs"
     set -- "$@" --antt-project "$kit/rattle/logic/antt-project.json" --logic-built "$kit/logic_built"
-    set -- "$@" --toolchain "$kit/toolchain" --backend llvm -o out/libcs_ffi.a
-    for below in $(crates_below cs_ffi); do
-        [ "$below" != cs_ffi ] || continue
+    set -- "$@" --toolchain "$kit/toolchain" --backend llvm -o "out/lib$of.a"
+    for below in $(sed -n "s/^$of .*: *//p" "$bench/../crates.txt"); do
+        [ ! -e "$kit/rlibs/$below.rlib" ] || set -- "$@" --extern "$below=$kit/rlibs/$below.rlib"
+    done
+    for below in $(crates_below "$of"); do
+        [ "$below" != "$of" ] || continue
         [ "$crates/$below/out/rlib/$below.rlib" -nt "$begun" ] || return 1
         set -- "$@" --extern "$below=$crates/$below/out/rlib/$below.rlib"
     done
-    mkdir -p "$crates/cs_ffi/out"
-    (cd "$crates/cs_ffi" && "$kit/bin/rattle" build "$@")
+    mkdir -p "$crates/$of/out"
+    (cd "$crates/$of" && "$kit/bin/rattle" build "$@")
 }
 
 build_capture() {

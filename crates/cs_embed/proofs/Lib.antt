@@ -1,0 +1,4 @@
+mod Declared
+mod Filed
+mod Refused
+mod Telling
