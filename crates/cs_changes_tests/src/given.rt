@@ -11,17 +11,22 @@ pub fn table(alloc: Global, name: &str, last: bool) -> Result<TableDef, Memory> 
     })
 }
 
-fn tables(alloc: Global) -> Result<Vec<TableDef>, Memory> {
+fn tables(alloc: Global, names: &[&str; 3]) -> Result<Vec<TableDef>, Memory> {
     let mut tables = Vec::new(alloc);
-    tables.push(table(alloc, "t1", false)?)?;
-    tables.push(table(alloc, "t2", false)?)?;
-    tables.push(table(alloc, "t3", true)?)?;
+    tables.push(table(alloc, names[0], false)?)?;
+    tables.push(table(alloc, names[1], false)?)?;
+    tables.push(table(alloc, names[2], true)?)?;
     Ok(tables)
 }
 
-/// The catalog of `t1` and `t2` with one key column of two, and `t3` with two.
+/// The catalog of tables of these names, of which the first two have one key column of two, and the last has two.
+pub fn catalog_of(alloc: Global, names: &[&str; 3]) -> Option<Catalog> {
+    Catalog::new(tables(alloc, names).ok()?).ok()
+}
+
+/// The one of `t1`, `t2` and `t3`.
 pub fn catalog(alloc: Global) -> Option<Catalog> {
-    Catalog::new(tables(alloc).ok()?).ok()
+    catalog_of(alloc, &["t1", "t2", "t3"])
 }
 
 /// Whether the bytes are these parts, one behind another.

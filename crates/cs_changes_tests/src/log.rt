@@ -2,7 +2,7 @@
 
 use crate::given::catalog;
 use cs_store::log::{Body, BodyFault, LogEntry, is_stored_body, put_body, read_body};
-use cs_value::Memory;
+use cs_value::{Memory, Text};
 use std::alloc::Global;
 
 /// What the bytes are read as, by the catalog.
@@ -50,9 +50,15 @@ fn is_refused(alloc: Global, bytes: &[u8]) -> bool {
     matches!(body(alloc, bytes), Err(BodyFault::NoBody))
 }
 
-/// No byte, another kind, another table, a key column's mark 2 in place of the normal form's 1, one byte too few, keys that fall.
-const NO_BODIES: [&[u8]; 6] = [
+/// The body that widens `t1` to three columns, as it is stored.
+const WIDEN: &[u8] = b"\x01\0\0\0\x03t1";
+
+/// No byte, another kind, another table, a key column's mark 2 in place of the normal form's 1, one byte too few, keys that fall. The
+/// first of the others would widen `t1` to three columns, which none may yet, and the next lacks a byte for that.
+const NO_BODIES: [&[u8]; 8] = [
     b"",
+    WIDEN,
+    b"\x01\0\0\x03",
     b"\x01\x54\x02\x01\0t1\0\x12\0\x01\0\0\0\0\0\0\0\x01\x03\x02v1",
     b"\0\x54\x02\x01\0t9\0\x12\0\x01\0\0\0\0\0\0\0\x01\x03\x02v1",
     b"\0\x54\x02\x02\0t1\0\x12\0\x01\0\0\0\0\0\0\0\x01\x03\x02v1",
@@ -75,6 +81,30 @@ fn entry(alloc: Global, bytes: &[u8]) -> Result<LogEntry, BodyFault> {
         number: 1,
         body: body(alloc, bytes)?,
     })
+}
+
+/// The entry that widens `t1` to so many columns.
+fn widening(alloc: Global, width: u32) -> Result<LogEntry, Memory> {
+    let table = Text::from_string(String::from_str(alloc, "t1")?);
+    Ok(LogEntry {
+        origin: 7,
+        number: 1,
+        body: Body::Widen { table, width },
+    })
+}
+
+/// Whether such an entry has no changeset, is stored as it should be, and is the same as its copy, and not as one of another width.
+fn widens(alloc: Global) -> Result<bool, Memory> {
+    let entry = widening(alloc, 3)?;
+    let mut stored = Vec::new(alloc);
+    put_body(&entry.body, &mut stored)?;
+    let is_stored = stored.as_slice() == WIDEN && entry.body.changes().is_none();
+    Ok(is_stored && is_itself(alloc, &entry, &widening(alloc, 4)?)?)
+}
+
+#[test]
+fn entries_that_widen(rt: HostRuntime) {
+    assert!(rt; widens(rt.alloc()).unwrap_or(false));
 }
 
 /// Whether the entry is the same as its copy, and not as another.

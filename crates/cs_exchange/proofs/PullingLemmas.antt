@@ -1,3 +1,4 @@
+pub mod Bodies
 pub mod Reading
 pub mod Next
 pub mod Walk

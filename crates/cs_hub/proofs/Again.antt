@@ -1,11 +1,13 @@
 -- A request that is answered again, by the hub after it, or by one whose log goes on otherwise.
-use Rattle.std.proofs.Common.{◌≡◌, ◌≢◌, ℕ, ◌<◌, List, [], ◌∷◌, ◌++◌, length, Some, Result, Ok, Err, slice_get, inl, inr, refl, sym, ap, subst, ◌∙◌, arith, length-append}
+use Rattle.std.proofs.Common.{◌≡◌, ◌≢◌, ℕ, ◌<◌, List, [], ◌∷◌, ◌++◌, length, min, Some, Result, Ok, Err, slice_get, inl, inr, refl, sym, ap, subst, ◌∙◌, arith, length-append}
 use Rattle.std.proofs.lemmas.Option.{same_Some, slice_get_within}
 use Rattle.cs_value.specs.declared.catalog.TableDef.{TableDef}
 use Rattle.cs_change.specs.declared.group.Group.{Group}
+use Rattle.cs_store.specs.log.Laws.{LongerLog}
+use Rattle.cs_store.specs.log.Log.{catalog_at}
 use Rattle.cs_store.specs.declared.log.entry.LogEntry.{LogEntry}
 use Rattle.cs_normalising.specs.NormalFormOf.{IsNormalFormOf}
-use Rattle.cs_hub.specs.judgement.Hub.{HubState, with_entry}
+use Rattle.cs_hub.specs.judgement.Hub.{HubState, judging, with_entry}
 use Rattle.cs_hub.specs.judgement.Judged.{hub_of}
 use Rattle.cs_hub.specs.judgement.Pushes.{IsRepeat, Push, Pushes, entry_of_push}
 use Rattle.cs_hub.specs.declared.judgement.fault.HubFault.{HubFault}
@@ -66,37 +68,45 @@ pushes_again limit old new push told (inr (g, inr (h, inr (i, inr (j, inr (k, in
     subst (λ (h : HubState). Pushes limit h push told h) (sym s) again
 pushes_again limit old new push told (inr (g, inr (h, inr (i, inr (j, inr (k, inr (l, (c, s)))))))) = same_again limit old new push told s (inr (g, inr (h, inr (i, inr (j, inr (k, inr (l, (c, s))))))))
 
-tables_stay : (old new : HubState) (push : Push) → IsLeft old push new → new.opening ≡ old.opening
-tables_stay old new push (stays same) = ap (λ (h : HubState). h.opening) same
-tables_stay old new push (grows is) = ap (λ (h : HubState). h.opening) is.grown
+-- the catalog at the length of a log is that of any longer one
+judged_alike : LongerLog → (opening : List TableDef) (log more : List LogEntry) (base : ℕ) → base ≡ length log → judging (hub_of opening (log ++ more)) base ≡ judging (hub_of opening log) base
+judged_alike longer opening log more base last =
+    let long : min base (length (log ++ more)) ≡ length log = omega (arith, last, length-append log more) in
+    let short : length log ≡ min base (length log) = omega (arith, last) in
+    ap (λ (n : ℕ). catalog_at opening (log ++ more) n) long ∙ (longer opening log more (length log) (omega arith)).0 ∙ ap (λ (n : ℕ). catalog_at opening log n) short
 
-groups_again : (limit : ℕ) (old new : HubState) (head : PushHead) (groups : List Group) (outcome : Outcome) → TakesGroups limit old head groups outcome new → TakesGroups limit new head groups outcome new
-groups_again limit old new head groups outcome (inl (f, m, u, a, s)) =
+tables_stay : LongerLog → (old new : HubState) (push : Push) → IsLeft old push new → judging new push.head.base ≡ judging old push.head.base
+tables_stay longer old new push (stays same) = ap (λ (h : HubState). judging h push.head.base) same
+tables_stay longer old new push (grows is) =
+    ap (λ (h : HubState). judging h push.head.base) is.grown ∙ judged_alike longer old.opening old.log (entry_of_push push ∷ []) push.head.base is.last
+
+groups_again : LongerLog → (limit : ℕ) (old new : HubState) (head : PushHead) (groups : List Group) (outcome : Outcome) → TakesGroups limit old head groups outcome new → TakesGroups limit new head groups outcome new
+groups_again longer limit old new head groups outcome (inl (f, m, u, a, s)) =
     subst (λ (h : HubState). TakesGroups limit h head groups outcome new) (sym s) (inl (f, m, u, a, s))
-groups_again limit old new head groups outcome (inr (changes, form, (told, p, is))) =
+groups_again longer limit old new head groups outcome (inr (changes, form, (told, p, is))) =
     let push : Push = record { head = head; changes = changes } in
-    inr (changes, subst (λ (t : List TableDef). IsNormalFormOf t groups changes) (sym (tables_stay old new push (left limit old new push told p))) form, (told, pushes_again limit old new push told p, is))
+    inr (changes, subst (λ (t : List TableDef). IsNormalFormOf t groups changes) (sym (tables_stay longer old new push (left limit old new push told p))) form, (told, pushes_again limit old new push told p, is))
 
-bytes_again : (limit : ℕ) (old new : HubState) (head : PushHead) (changeset : List ℕ) (outcome : Outcome) → TakesBytes limit old head changeset outcome new → TakesBytes limit new head changeset outcome new
-bytes_again limit old new head changeset outcome (inl (f, at, w, a, s)) = inl (f, at, w, a, refl)
-bytes_again limit old new head changeset outcome (inr (groups, fits, is, p)) = inr (groups, fits, is, groups_again limit old new head groups outcome p)
+bytes_again : LongerLog → (limit : ℕ) (old new : HubState) (head : PushHead) (changeset : List ℕ) (outcome : Outcome) → TakesBytes limit old head changeset outcome new → TakesBytes limit new head changeset outcome new
+bytes_again longer limit old new head changeset outcome (inl (f, at, w, a, s)) = inl (f, at, w, a, refl)
+bytes_again longer limit old new head changeset outcome (inr (groups, fits, is, p)) = inr (groups, fits, is, groups_again longer limit old new head groups outcome p)
 
-asked_again : (limit : ℕ) (old new : HubState) (asked : Result Asked WireFault) (answer : List ℕ) → AnswersAsked limit old asked answer new → AnswersAsked limit new asked answer new
-asked_again limit old new (Err fault) answer (a, s) = (a, refl)
-asked_again limit old new (Ok (AsksPull first count)) answer (a, s) =
+asked_again : LongerLog → (limit : ℕ) (old new : HubState) (asked : Result Asked WireFault) (answer : List ℕ) → AnswersAsked limit old asked answer new → AnswersAsked limit new asked answer new
+asked_again longer limit old new (Err fault) answer (a, s) = (a, refl)
+asked_again longer limit old new (Ok (AsksPull first count)) answer (a, s) =
     subst (λ (h : HubState). AnswersAsked limit h (Ok (AsksPull first count)) answer new) (sym s) (a, s)
-asked_again limit old new (Ok (AsksCatch asker first count)) answer (a, s) =
+asked_again longer limit old new (Ok (AsksCatch asker first count)) answer (a, s) =
     subst (λ (h : HubState). AnswersAsked limit h (Ok (AsksCatch asker first count)) answer new) (sym s) (a, s)
-asked_again limit old new (Ok (AsksPush head changeset)) answer (outcome, p, a) = (outcome, bytes_again limit old new head changeset outcome p, a)
+asked_again longer limit old new (Ok (AsksPush head changeset)) answer (outcome, p, a) = (outcome, bytes_again longer limit old new head changeset outcome p, a)
 
-pub served_again : ServedAgain
-served_again limit old new request answer (asked, reads, answers) = (asked, reads, asked_again limit old new asked answer answers)
+pub served_again : LongerLog → ServedAgain
+served_again longer limit old new request answer (asked, reads, answers) = (asked, reads, asked_again longer limit old new asked answer answers)
 
 -- ---- where another entry came
 
 -- a log that is longer is another
-longer : (opening : List TableDef) (log : List LogEntry) (entry : LogEntry) → hub_of opening (log ++ entry ∷ []) ≡ hub_of opening log → ⊥
-longer opening log entry same =
+another_log : (opening : List TableDef) (log : List LogEntry) (entry : LogEntry) → hub_of opening (log ++ entry ∷ []) ≡ hub_of opening log → ⊥
+another_log opening log entry same =
     let count : length (log ++ entry ∷ []) ≡ length log = ap (λ (h : HubState). length h.log) same in
     omega (arith, count, length-append log (entry ∷ []))
 
@@ -130,31 +140,38 @@ module _ (limit : ℕ) (opening : List TableDef) (log more : List LogEntry) (ent
       inr (some, inr (λ above. omega (arith, above, within), inr (not_there push last is, inl (within, (refl, refl)))))
 
   stale_push : (push : Push) (told : Result Pushed HubFault) → Pushes limit Before push told With → AsStale push
-  stale_push push told (inl (g, (a, s))) = absurd (longer opening log entry s)
-  stale_push push told (inr (g, inl (h, (a, s)))) = absurd (longer opening log entry s)
-  stale_push push told (inr (g, inr (h, inl (i, (a, s))))) = absurd (longer opening log entry s)
-  stale_push push told (inr (g, inr (h, inr (i, inl (j, (a, s)))))) = absurd (longer opening log entry s)
-  stale_push push told (inr (g, inr (h, inr (i, inr (j, inl (k, (a, s))))))) = absurd (longer opening log entry s)
+  stale_push push told (inl (g, (a, s))) = absurd (another_log opening log entry s)
+  stale_push push told (inr (g, inl (h, (a, s)))) = absurd (another_log opening log entry s)
+  stale_push push told (inr (g, inr (h, inl (i, (a, s))))) = absurd (another_log opening log entry s)
+  stale_push push told (inr (g, inr (h, inr (i, inl (j, (a, s)))))) = absurd (another_log opening log entry s)
+  stale_push push told (inr (g, inr (h, inr (i, inr (j, inl (k, (a, s))))))) = absurd (another_log opening log entry s)
   stale_push push told (inr (g, inr (h, inr (i, inr (j, inr (k, inl (l, (a, s)))))))) =
       stale_at push g (omega (arith, h, j)) (last_is (entry_of_push push) s)
-  stale_push push told (inr (g, inr (h, inr (i, inr (j, inr (k, inr (l, (c, s)))))))) = absurd (longer opening log entry s)
+  stale_push push told (inr (g, inr (h, inr (i, inr (j, inr (k, inr (l, (c, s)))))))) = absurd (another_log opening log entry s)
 
   abbrev TakesStale : PushHead → List ℕ → Type 0
   TakesStale head changeset = TakesBytes limit Long head changeset (Ok (pushed.Stale (length (log ++ held ∷ more)))) Long
 
-  stale_bytes : (head : PushHead) (changeset : List ℕ) (outcome : Outcome) → TakesBytes limit Before head changeset outcome With → TakesStale head changeset
-  stale_bytes head changeset outcome (inl (f, at, w, a, s)) = absurd (longer opening log entry s)
-  stale_bytes head changeset outcome (inr (groups, fits, is, inl (f, m, u, a, s))) = absurd (longer opening log entry s)
-  stale_bytes head changeset outcome (inr (groups, fits, is, inr (changes, form, (told, p, o)))) =
-      inr (groups, fits, is, inr (changes, form, (Ok (pushed.Stale (length (log ++ held ∷ more))), stale_push (record { head = head; changes = changes }) told p, refl)))
+  last_of : (push : Push) → IsLeft Before push With → push.head.base ≡ length log
+  last_of push (stays same) = absurd (another_log opening log entry same)
+  last_of push (grows is) = is.last
 
-  pub stale_asked : (asked : Result Asked WireFault) (answer : List ℕ) → AnswersAsked limit Before asked answer With
+  stale_bytes : LongerLog → (head : PushHead) (changeset : List ℕ) (outcome : Outcome) → TakesBytes limit Before head changeset outcome With → TakesStale head changeset
+  stale_bytes longer head changeset outcome (inl (f, at, w, a, s)) = absurd (another_log opening log entry s)
+  stale_bytes longer head changeset outcome (inr (groups, fits, is, inl (f, m, u, a, s))) = absurd (another_log opening log entry s)
+  stale_bytes longer head changeset outcome (inr (groups, fits, is, inr (changes, form, (told, p, o)))) =
+      let push : Push = record { head = head; changes = changes } in
+      let last : head.base ≡ length log = last_of push (left limit Before With push told p) in
+      let there = subst (λ (t : List TableDef). IsNormalFormOf t groups changes) (sym (judged_alike longer opening log (held ∷ more) head.base last)) form in
+      inr (groups, fits, is, inr (changes, there, (Ok (pushed.Stale (length (log ++ held ∷ more))), stale_push push told p, refl)))
+
+  pub stale_asked : LongerLog → (asked : Result Asked WireFault) (answer : List ℕ) → AnswersAsked limit Before asked answer With
       → AnswersAsked limit Long asked (answer_spelling (Short (Stale (length (log ++ held ∷ more))))) Long
-  stale_asked (Err fault) answer (a, s) = absurd (longer opening log entry s)
-  stale_asked (Ok (AsksPull first count)) answer (a, s) = absurd (longer opening log entry s)
-  stale_asked (Ok (AsksCatch asker first count)) answer (a, s) = absurd (longer opening log entry s)
-  stale_asked (Ok (AsksPush head changeset)) answer (outcome, p, a) = (Ok (pushed.Stale (length (log ++ held ∷ more))), stale_bytes head changeset outcome p, refl)
+  stale_asked longer (Err fault) answer (a, s) = absurd (another_log opening log entry s)
+  stale_asked longer (Ok (AsksPull first count)) answer (a, s) = absurd (another_log opening log entry s)
+  stale_asked longer (Ok (AsksCatch asker first count)) answer (a, s) = absurd (another_log opening log entry s)
+  stale_asked longer (Ok (AsksPush head changeset)) answer (outcome, p, a) = (Ok (pushed.Stale (length (log ++ held ∷ more))), stale_bytes longer head changeset outcome p, refl)
 
-pub stale_behind_another : StaleBehindAnother
-stale_behind_another limit opening log more entry held request answer (asked, reads, answers) another =
-    (asked, reads, stale_asked limit opening log more entry held another asked answer answers)
+pub stale_behind_another : LongerLog → StaleBehindAnother
+stale_behind_another longer limit opening log more entry held request answer (asked, reads, answers) another =
+    (asked, reads, stale_asked limit opening log more entry held another longer asked answer answers)

@@ -1,6 +1,7 @@
 -- Each request has an answer.
-use Rattle.std.proofs.Common.{inl, inr, ℕ, List, [], ◌∷◌, drop, length, map, Result, Ok, Err, refl, subst}
+use Rattle.std.proofs.Common.{◌≡◌, inl, inr, ℕ, List, [], ◌∷◌, drop, length, map, min, take, Result, Ok, Err, refl, sym, ap, subst, ◌∙◌}
 use Rattle.std.specs.List.{All}
+use Rattle.std.proofs.Math.Seq.{take-length}
 use Rattle.std.proofs.lemmas.Bool.{cases_lt}
 use Rattle.std.proofs.lemmas.List.Elements.{All-drop, All-from_recursion}
 use Rattle.cs_value.specs.declared.catalog.TableDef.{TableDef}
@@ -9,10 +10,13 @@ use Rattle.cs_change.specs.declared.group.Group.{Group}
 use Rattle.cs_normalising.specs.Laws.{FormOrUnfit}
 use Rattle.cs_changeset.specs.Laws.{ChangesetOrFault}
 use Rattle.cs_varint.specs.Bytes.{AreBytes, bytes_behind}
-use Rattle.cs_store.specs.log.Log.{IsLog, catalog_at}
+use Rattle.cs_normal.specs.Normal.{FitsCatalog}
+use Rattle.cs_store.specs.log.Entry.{entry_changes}
+use Rattle.cs_store.specs.log.Laws.{CatalogStays, CatalogsAreTables}
+use Rattle.cs_store.specs.log.Log.{IsLog, catalog_at, catalog_of}
 use Rattle.cs_store.specs.declared.log.entry.LogEntry.{LogEntry}
 use Rattle.cs_hub.specs.catching.Laws.{CatchHasAnswer}
-use Rattle.cs_hub.specs.judgement.Hub.{HubState, entries_from}
+use Rattle.cs_hub.specs.judgement.Hub.{HubState, entries_from, judging}
 use Rattle.cs_hub.specs.judgement.Laws.{IsOfHub, PushHasAnswer}
 use Rattle.cs_hub.specs.declared.judgement.fault.HubFault.TheVariants.{Ahead}
 use Rattle.cs_wire.specs.Laws.{AsksSomething}
@@ -36,13 +40,15 @@ pub record Found : Type 0 where
   pub catches : CatchHasAnswer
   pub read : ChangesetOrFault
   pub decided : FormOrUnfit
+  pub catalogs : CatalogsAreTables
+  pub stays : CatalogStays
 
 abbrev Takes : ℕ → HubState → PushHead → (Outcome → HubState → Type 0) → Type 0
 Takes limit old head holds = (outcome : Outcome) × (new : HubState) × holds outcome new
 
 of_groups : Found → (limit : ℕ) (old : HubState) (head : PushHead) (groups : List Group) → IsOfHub old → FitsChangeset groups → Takes limit old head (TakesGroups limit old head groups)
 of_groups laws limit old head groups hub fits =
-    elim (laws.decided old.opening groups hub.tables fits) [
+    elim (laws.decided (judging old head.base) groups (laws.catalogs old.opening old.log (min head.base (length old.log)) hub.tables hub.log) fits) [
       | inr (fault, some, wrong) ↦ (Err (NoForm fault), old, inl (fault, some, wrong, refl, refl))
       | inl form ↦
           let told = laws.pushes limit old (record { head = head; changes = form.0 }) hub (form.1.normal, form.1.of_catalog) in
@@ -66,9 +72,14 @@ small_changeset head size bytes all =
     (bytes_behind (eight_bytes head.number) _
     (bytes_behind (four_bytes head.origin) _ (bytes_behind (push_tag ∷ []) _ all))))
 
--- the entries of a log change its tables
-all_fit : (opening : List TableDef) (log : List LogEntry) → IsLog opening log → All (Fits opening) log
-all_fit opening log is = All-from_recursion (Fits opening) log (at_each (Fits opening) log (λ version entry there. let next = is version entry there in (next.normal, next.defined.0)))
+-- the entries of a log change the tables that it opened with
+all_fit : CatalogStays → (opening : List TableDef) (log : List LogEntry) → IsLog opening log → All (Fits opening) log
+all_fit stays opening log is =
+    All-from_recursion (Fits opening) log (at_each (Fits opening) log (λ version entry there.
+    let next = is version entry there in
+    let front = take version log in
+    let same : catalog_at opening front (length front) ≡ opening = ap (catalog_of opening) (take-length front) ∙ stays opening log version is in
+    (next.normal, subst (λ (t : List TableDef). FitsCatalog t (entry_changes entry)) same next.defined.0)))
 
 of_asked : Found → (limit : ℕ) (old : HubState) (request : List ℕ) (asked : Result Asked WireFault) → IsOfHub old → AreBytes request → ReadsRequest request asked → (answer : List ℕ) × (new : HubState) × AnswersAsked limit old asked answer new
 of_asked laws limit old request (Err fault) hub small asks = (refused (NoRequest fault), old, (refl, refl))
@@ -81,7 +92,10 @@ of_asked laws limit old request (Ok (AsksCatch asker first count)) hub small ask
     elim (cases_lt (length old.log) first) [
       | inl above ↦ (refused (ByHub Ahead), old, (inl (above, refl), refl))
       | inr within ↦
-          let told = laws.catches (catalog_at old.opening old.log first) asker count (drop first old.log) hub.tables (All-drop (Fits old.opening) first old.log (all_fit old.opening old.log hub.log)) in
+          let tables = catalog_at old.opening old.log first in
+          let same : tables ≡ old.opening = laws.stays old.opening old.log first hub.log in
+          let fit = subst (λ (t : List TableDef). All (Fits t) (drop first old.log)) (sym same) (All-drop (Fits old.opening) first old.log (all_fit laws.stays old.opening old.log hub.log)) in
+          let told = laws.catches tables asker count (drop first old.log) (laws.catalogs old.opening old.log first hub.tables hub.log) fit in
           (answer_spelling (caught_answer asker first old.log told.0), old, (inr (within, (told.0, told.1, refl)), refl))
     ]
 of_asked laws limit old request (Ok (AsksPush head changeset)) hub small asks =

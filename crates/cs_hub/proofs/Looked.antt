@@ -1,14 +1,16 @@
 -- A request that is judged, with nothing changed.
-use Rattle.std.proofs.Common.{Vec, ◌≡◌, ◌+◌, ℕ, List, Result, Ok, Err, inl, inr, refl, subst}
+use Rattle.std.proofs.Common.{Vec, ◌≡◌, ◌+◌, ℕ, List, length, min, Result, Ok, Err, inl, inr, refl, sym, subst}
 use Rattle.std.specs.Global.{Global}
 use Rattle.std.specs.Prelude.{IfOk}
 use Rattle.cs_value.specs.declared.catalog.TableDef.{TableDef}
 use Rattle.cs_change.specs.Spelling.{FitsChangeset, changeset_spelling}
 use Rattle.cs_change.specs.declared.group.Group.{Group}
+use Rattle.cs_store.specs.log.Laws.{CatalogStays}
+use Rattle.cs_store.specs.log.Log.{IsLog}
 use Rattle.cs_store.specs.declared.log.entry.LogEntry.{LogEntry}
 use Rattle.cs_normalising.specs.NormalFormOf.{IsNormalFormOf}
 use Rattle.cs_normal.specs.declared.normal.TableChanges.{TableChanges}
-use Rattle.cs_hub.specs.judgement.Hub.{HubState, with_entry}
+use Rattle.cs_hub.specs.judgement.Hub.{HubState, judging, with_entry}
 use Rattle.cs_hub.specs.judgement.Judged.{IsJudgement, hub_of}
 use Rattle.cs_hub.specs.judgement.Pushes.{Push, Pushes}
 use Rattle.cs_hub.specs.declared.judgement.fault.HubFault.{HubFault}
@@ -40,15 +42,22 @@ pub record HasForm (tables : List TableDef) (bytes : List ℕ) (changes : List T
   pub spelled : bytes ≡ changeset_spelling groups
   pub form : IsNormalFormOf tables groups changes
 
-pub has_form : (tables : List TableDef) (bytes : List ℕ) (groups : List Group) (changes : List TableChanges) → FitsChangeset groups × (bytes ≡ changeset_spelling groups) → IsNormalFormOf tables groups changes → HasForm tables bytes changes
-has_form tables bytes groups changes (fits, spelled) normal = record { groups = groups; fits = fits; spelled = spelled; form = normal }
+-- the normal form by the tables that the log opened with is that by which the push is judged
+pub has_form_at : CatalogStays → (opening : List TableDef) (log : List LogEntry) (head : PushHead) (bytes : List ℕ) (groups : List Group) (changes : List TableChanges) → IsLog opening log
+    → FitsChangeset groups × (bytes ≡ changeset_spelling groups) → IsNormalFormOf opening groups changes → HasForm (judging (hub_of opening log) head.base) bytes changes
+has_form_at stays opening log head bytes groups changes is_log (fits, spelled) normal = record {
+  groups = groups;
+  fits = fits;
+  spelled = spelled;
+  form = subst (λ (t : List TableDef). IsNormalFormOf t groups changes) (sym (stays opening log (min head.base (length log)) is_log)) normal;
+}
 
 -- a push by its normal form
-to_bytes : (limit : ℕ) (head : PushHead) (bytes : List ℕ) (opening : List TableDef) (log : List LogEntry) (new : HubState) (changes : List TableChanges) (told : Result Pushed HubFault) (outcome : Outcome) → outcome ≡ or_refusal told → HasForm opening bytes changes
+to_bytes : (limit : ℕ) (head : PushHead) (bytes : List ℕ) (opening : List TableDef) (log : List LogEntry) (new : HubState) (changes : List TableChanges) (told : Result Pushed HubFault) (outcome : Outcome) → outcome ≡ or_refusal told → HasForm (judging (hub_of opening log) head.base) bytes changes
     → Pushes limit (hub_of opening log) (push_of head changes) told new → TakesBytes limit (hub_of opening log) head bytes outcome new
 to_bytes limit head bytes opening log new changes told outcome is has pushes = inr (has.groups, has.fits, has.spelled, inr (changes, has.form, (told, pushes, is)))
 
-module _ (device_failed : Type 0) (limit : ℕ) (head : PushHead) (bytes : List ℕ) (opening : List TableDef) (log : List LogEntry) (changes : List TableChanges) (has : HasForm opening bytes changes) where
+module _ (device_failed : Type 0) (limit : ℕ) (head : PushHead) (bytes : List ℕ) (opening : List TableDef) (log : List LogEntry) (changes : List TableChanges) (has : HasForm (judging (hub_of opening log) head.base) bytes changes) where
   -- it was judged
   pub judged_so : (judgement : Judgement) → IsJudgement limit (hub_of opening log) (push_of head changes) (Ok judgement) → JudgesBytes device_failed limit (hub_of opening log) head bytes (Ok judgement)
   judged_so (judged.Told told) is = to_bytes limit head bytes opening log (hub_of opening log) changes (Ok told) (Ok told) refl has is

@@ -1,14 +1,16 @@
 -- The lines that a new hub answers have one list of answers.
-use Rattle.std.proofs.Common.{◌≡◌, ℕ, inl, inr, List, [], ◌∷◌, ap, sym, subst}
+use Rattle.std.proofs.Common.{◌≡◌, ℕ, inl, inr, List, [], ◌∷◌, sym, subst}
 use Rattle.std.specs.Prelude.{Result, Ok, Err}
-use Rattle.cs_value.specs.Catalog.{AreTables}
-use Rattle.cs_value.specs.declared.catalog.TableDef.{TableDef}
 use Rattle.cs_change.specs.declared.group.Group.{Group}
 use Rattle.cs_lines.specs.Laws.{HasOneAnswerAlong}
 use Rattle.cs_lines.specs.OneRun as once_run
 use Rattle.cs_lines.specs.Served.{Answers, AnswersDecoded}
-use Rattle.cs_hub.specs.judgement.Hub.{HubState, fresh}
-use Rattle.cs_hub.specs.judgement.Pushes.{Push, Pushes}
+use Rattle.cs_normal.specs.Normal.{IsNormalChangeset}
+use Rattle.cs_store.specs.log.Laws.{AppendedIsLog, EmptyIsLog}
+use Rattle.cs_store.specs.log.Log.{IsNextEntry}
+use Rattle.cs_hub.specs.judgement.Hub.{HubState, fresh, with_entry}
+use Rattle.cs_hub.specs.judgement.Laws.{IsOfHub}
+use Rattle.cs_hub.specs.judgement.Pushes.{CanFollow, Push, Pushes, entry_of_push}
 use Rattle.cs_hub.specs.declared.judgement.fault.HubFault.{HubFault}
 use Rattle.cs_hub.specs.declared.judgement.push.Pushed.{Pushed}
 use Rattle.cs_hub.specs.Laws.{OneHubRun, OneService}
@@ -17,49 +19,56 @@ use Rattle.cs_wire.specs.declared.fault.WireFault.{WireFault}
 use Rattle.cs_hub.specs.Serves.{AnswersAsked, IsSame, Outcome, Serves, TakesBytes, TakesGroups}
 use Rattle.cs_wire.specs.declared.push_head.PushHead.{PushHead}
 
-same_catalog : (old new : HubState) → new ≡ old → new.opening ≡ old.opening
-same_catalog old new same = ap (λ (hub : HubState). hub.opening) same
+same_hub : (old new : HubState) → new ≡ old → IsOfHub old → IsOfHub new
+same_hub old new same is = subst IsOfHub (sym same) is
 
-pushes_keep : (limit : ℕ) (old new : HubState) (push : Push) (answer : Result Pushed HubFault) → Pushes limit old push answer new → new.opening ≡ old.opening
-pushes_keep limit old new push answer (inl (g, (a, s))) = same_catalog old new s
-pushes_keep limit old new push answer (inr (g, inl (h, (a, s)))) = same_catalog old new s
-pushes_keep limit old new push answer (inr (g, inr (h, inl (i, (a, s))))) = same_catalog old new s
-pushes_keep limit old new push answer (inr (g, inr (h, inr (i, inl (j, (a, s)))))) = same_catalog old new s
-pushes_keep limit old new push answer (inr (g, inr (h, inr (i, inr (j, inl (k, (a, s))))))) = same_catalog old new s
-pushes_keep limit old new push answer (inr (g, inr (h, inr (i, inr (j, inr (k, inl (l, (a, s)))))))) = ap (λ (hub : HubState). hub.opening) s
-pushes_keep limit old new push answer (inr (g, inr (h, inr (i, inr (j, inr (k, inr (l, (a, s)))))))) = same_catalog old new s
+-- a push that is appended is the next entry of the log
+grown : AppendedIsLog → (old new : HubState) (push : Push) → IsNormalChangeset push.changes → CanFollow old push → new ≡ with_entry old (entry_of_push push) → IsOfHub old → IsOfHub new
+grown law old new push normal follows same is =
+    let next : IsNextEntry old.opening old.log (entry_of_push push) = record { normal = normal; defined = follows; widens = tt } in
+    subst IsOfHub (sym same) (record { tables = is.tables; log = law old.opening old.log (entry_of_push push) is.log next })
 
-groups_keep : (limit : ℕ) (old new : HubState) (head : PushHead) (groups : List Group) (outcome : Outcome) → TakesGroups limit old head groups outcome new → new.opening ≡ old.opening
-groups_keep limit old new head groups outcome (inl (f, m, u, a, s)) = same_catalog old new s
-groups_keep limit old new head groups outcome (inr (changes, form, (told, p, a))) =
-    pushes_keep limit old new (record { head = head; changes = changes }) told p
+pushes_keep : AppendedIsLog → (limit : ℕ) (old new : HubState) (push : Push) (answer : Result Pushed HubFault) → IsNormalChangeset push.changes → Pushes limit old push answer new → IsOfHub old → IsOfHub new
+pushes_keep law limit old new push answer normal (inl (g, (a, s))) = same_hub old new s
+pushes_keep law limit old new push answer normal (inr (g, inl (h, (a, s)))) = same_hub old new s
+pushes_keep law limit old new push answer normal (inr (g, inr (h, inl (i, (a, s))))) = same_hub old new s
+pushes_keep law limit old new push answer normal (inr (g, inr (h, inr (i, inl (j, (a, s)))))) = same_hub old new s
+pushes_keep law limit old new push answer normal (inr (g, inr (h, inr (i, inr (j, inl (k, (a, s))))))) = same_hub old new s
+pushes_keep law limit old new push answer normal (inr (g, inr (h, inr (i, inr (j, inr (k, inl (l, (a, s)))))))) = grown law old new push normal l s
+pushes_keep law limit old new push answer normal (inr (g, inr (h, inr (i, inr (j, inr (k, inr (l, (a, s)))))))) = same_hub old new s
 
-changeset_keeps : (limit : ℕ) (old new : HubState) (head : PushHead) (changeset : List ℕ) (outcome : Outcome) → TakesBytes limit old head changeset outcome new → new.opening ≡ old.opening
-changeset_keeps limit old new head changeset outcome (inl (f, at, w, a, s)) = same_catalog old new s
-changeset_keeps limit old new head changeset outcome (inr (groups, fits, is, p)) = groups_keep limit old new head groups outcome p
+groups_keep : AppendedIsLog → (limit : ℕ) (old new : HubState) (head : PushHead) (groups : List Group) (outcome : Outcome) → TakesGroups limit old head groups outcome new → IsOfHub old → IsOfHub new
+groups_keep law limit old new head groups outcome (inl (f, m, u, a, s)) = same_hub old new s
+groups_keep law limit old new head groups outcome (inr (changes, form, (told, p, a))) =
+    pushes_keep law limit old new (record { head = head; changes = changes }) told form.normal p
 
-asked_keeps : (limit : ℕ) (old new : HubState) (asked : Result Asked WireFault) (answer : List ℕ) → AnswersAsked limit old asked answer new → new.opening ≡ old.opening
-asked_keeps limit old new (Err fault) answer (a, s) = same_catalog old new s
-asked_keeps limit old new (Ok (AsksPull first count)) answer (a, s) = same_catalog old new s
-asked_keeps limit old new (Ok (AsksCatch asker first count)) answer (a, s) = same_catalog old new s
-asked_keeps limit old new (Ok (AsksPush head changeset)) answer (some, p, a) = changeset_keeps limit old new head changeset some p
+changeset_keeps : AppendedIsLog → (limit : ℕ) (old new : HubState) (head : PushHead) (changeset : List ℕ) (outcome : Outcome) → TakesBytes limit old head changeset outcome new → IsOfHub old → IsOfHub new
+changeset_keeps law limit old new head changeset outcome (inl (f, at, w, a, s)) = same_hub old new s
+changeset_keeps law limit old new head changeset outcome (inr (groups, fits, is, p)) = groups_keep law limit old new head groups outcome p
 
-decoded_keeps : (limit : ℕ) (old new : HubState) (decoded : Result (List ℕ) _) (answer : List ℕ) → AnswersDecoded (Serves limit) old decoded answer new → new.opening ≡ old.opening
-decoded_keeps limit old new (Ok request) answer (asked, asks, p) = asked_keeps limit old new asked answer p
-decoded_keeps limit old new (Err fault) answer (a, s) = same_catalog old new s
+asked_keeps : AppendedIsLog → (limit : ℕ) (old new : HubState) (asked : Result Asked WireFault) (answer : List ℕ) → AnswersAsked limit old asked answer new → IsOfHub old → IsOfHub new
+asked_keeps law limit old new (Err fault) answer (a, s) = same_hub old new s
+asked_keeps law limit old new (Ok (AsksPull first count)) answer (a, s) = same_hub old new s
+asked_keeps law limit old new (Ok (AsksCatch asker first count)) answer (a, s) = same_hub old new s
+asked_keeps law limit old new (Ok (AsksPush head changeset)) answer (some, p, a) = changeset_keeps law limit old new head changeset some p
 
-answer_keeps : (limit : ℕ) (old new : HubState) (line answer : List ℕ) → Answers (Serves limit) IsSame old line answer new → new.opening ≡ old.opening
-answer_keeps limit old new line answer (inl served) = decoded_keeps limit old new _ answer served
-answer_keeps limit old new line answer (inr (a, inl s)) = same_catalog old new s
-answer_keeps limit old new line answer (inr (a, inr s)) = same_catalog old new s
+decoded_keeps : AppendedIsLog → (limit : ℕ) (old new : HubState) (decoded : Result (List ℕ) _) (answer : List ℕ) → AnswersDecoded (Serves limit) old decoded answer new → IsOfHub old → IsOfHub new
+decoded_keeps law limit old new (Ok request) answer (asked, asks, p) = asked_keeps law limit old new asked answer p
+decoded_keeps law limit old new (Err fault) answer (a, s) = same_hub old new s
 
-along : OneService → (limit : ℕ) (old : HubState) (lines : List (List ℕ)) → AreTables old.opening → HasOneAnswerAlong (Serves limit) IsSame old lines
-along once limit old [] are = tt
-along once limit old (line ∷ lines) are = (
-  λ request one other new next first second. once limit old new next request one other are first second,
-  λ answer mid served. along once limit mid lines (subst (λ (c : List TableDef). AreTables c) (sym (answer_keeps limit old mid line answer served)) are),
+answer_keeps : AppendedIsLog → (limit : ℕ) (old new : HubState) (line answer : List ℕ) → Answers (Serves limit) IsSame old line answer new → IsOfHub old → IsOfHub new
+answer_keeps law limit old new line answer (inl served) = decoded_keeps law limit old new _ answer served
+answer_keeps law limit old new line answer (inr (a, inl s)) = same_hub old new s
+answer_keeps law limit old new line answer (inr (a, inr s)) = same_hub old new s
+
+along : AppendedIsLog → OneService → (limit : ℕ) (old : HubState) (lines : List (List ℕ)) → IsOfHub old → HasOneAnswerAlong (Serves limit) IsSame old lines
+along law once limit old [] is = tt
+along law once limit old (line ∷ lines) is = (
+  λ request one other new next first second. once limit old new next request one other is first second,
+  λ answer mid served. along law once limit mid lines (answer_keeps law limit old mid line answer served is),
 )
 
-pub one_hub_run : OneService → (limit : ℕ) → OneHubRun limit
-one_hub_run once limit tables new last lines ones others are here there first second =
-    once_run.one_run (Serves limit) IsSame (fresh tables) new last lines ones others (along once limit (fresh tables) lines are) here there first second
+pub one_hub_run : AppendedIsLog → EmptyIsLog → OneService → (limit : ℕ) → OneHubRun limit
+one_hub_run law begins once limit tables new last lines ones others are here there first second =
+    once_run.one_run (Serves limit) IsSame (fresh tables) new last lines ones others
+    (along law once limit (fresh tables) lines (record { tables = are; log = begins tables })) here there first second

@@ -1,5 +1,5 @@
 -- A request has one answer, and leaves one hub.
-use Rattle.std.proofs.Common.{◌≡◌, ℕ, List, Result, Ok, Err, drop, inl, inr, sym, ap, subst, ◌∙◌, arith}
+use Rattle.std.proofs.Common.{◌≡◌, ℕ, List, Result, Ok, Err, drop, length, min, inl, inr, sym, ap, subst, ◌∙◌, arith}
 use Rattle.cs_value.specs.Catalog.{AreTables}
 use Rattle.cs_change.specs.declared.group.Group.{Group}
 use Rattle.cs_changeset.specs.declared.fault.Fault.{Fault}
@@ -9,8 +9,9 @@ use Rattle.cs_normalising.specs.declared.unfit.Unfit.{Unfit}
 use Rattle.cs_normal.specs.declared.normal.TableChanges.{TableChanges}
 use Rattle.cs_hub.specs.catching.Laws.{OneCatch}
 use Rattle.cs_hub.specs.declared.catching.caught.Caught.{Caught}
+use Rattle.cs_store.specs.log.Laws.{CatalogsAreTables}
 use Rattle.cs_store.specs.log.Log.{catalog_at}
-use Rattle.cs_hub.specs.judgement.Hub.{HubState}
+use Rattle.cs_hub.specs.judgement.Hub.{HubState, judging}
 use Rattle.cs_hub.specs.judgement.Laws.{OneAnswer}
 use Rattle.cs_hub.specs.judgement.Pushes.{Push}
 use Rattle.cs_wire.specs.Laws.{OneRequest}
@@ -33,6 +34,10 @@ pub record Below : Type 0 where
   pub answer : OneAnswer
   pub caught : OneCatch
 
+-- the catalog at each version is one
+abbrev AreCatalogs : HubState → Type 0
+AreCatalogs hub = (version : ℕ) → AreTables (catalog_at hub.opening hub.log version)
+
 abbrev Agree : Outcome → Outcome → HubState → HubState → Type 0
 Agree one other new last = (one ≡ other) × (new ≡ last)
 
@@ -51,17 +56,17 @@ forms_agree : (laws : Below) (limit : ℕ) (old new last : HubState) (head : Pus
 forms_agree laws limit old new last head some others one other same p q =
     pushes_agree laws limit old new last (record { head = head; changes = others }) one other (subst (λ (c : List TableChanges). TakesNormal limit old (record { head = head; changes = c }) one new) same p) q
 
-groups_agree : (laws : Below) (limit : ℕ) (old new last : HubState) (head : PushHead) (groups : List Group) (one other : Outcome) → AreTables old.opening → TakesGroups limit old head groups one new → TakesGroups limit old head groups other last → Agree one other new last
+groups_agree : (laws : Below) (limit : ℕ) (old new last : HubState) (head : PushHead) (groups : List Group) (one other : Outcome) → AreCatalogs old → TakesGroups limit old head groups one new → TakesGroups limit old head groups other last → Agree one other new last
 groups_agree laws limit old new last head groups one other are (inl (f, m, u, a, n)) (inl (g, k, v, b, l)) =
-    refuse old new last one other (NoForm f) (NoForm g) (ap (λ (h : Unfit). NoForm h) (laws.unfit f g old.opening groups are u v m k)) a b n l
+    refuse old new last one other (NoForm f) (NoForm g) (ap (λ (h : Unfit). NoForm h) (laws.unfit f g (judging old head.base) groups (are (min head.base (length old.log))) u v m k)) a b n l
 groups_agree laws limit old new last head groups one other are (inl (f, m, u, a, n)) (inr (changes, form, p)) =
-    absurd (m (laws.fit f old.opening groups are form.fit u))
+    absurd (m (laws.fit f (judging old head.base) groups (are (min head.base (length old.log))) form.fit u))
 groups_agree laws limit old new last head groups one other are (inr (changes, form, p)) (inl (f, m, u, a, n)) =
-    absurd (m (laws.fit f old.opening groups are form.fit u))
+    absurd (m (laws.fit f (judging old head.base) groups (are (min head.base (length old.log))) form.fit u))
 groups_agree laws limit old new last head groups one other are (inr (some, form, p)) (inr (others, form', q)) =
-    forms_agree laws limit old new last head some others one other (laws.form old.opening groups some others are form form') p q
+    forms_agree laws limit old new last head some others one other (laws.form (judging old head.base) groups some others (are (min head.base (length old.log))) form form') p q
 
-changesets_agree : (laws : Below) (limit : ℕ) (old new last : HubState) (head : PushHead) (changeset : List ℕ) (one other : Outcome) → AreTables old.opening → TakesBytes limit old head changeset one new → TakesBytes limit old head changeset other last → Agree one other new last
+changesets_agree : (laws : Below) (limit : ℕ) (old new last : HubState) (head : PushHead) (changeset : List ℕ) (one other : Outcome) → AreCatalogs old → TakesBytes limit old head changeset one new → TakesBytes limit old head changeset other last → Agree one other new last
 changesets_agree laws limit old new last head changeset one other are (inl (f, at, w, a, n)) (inl (g, there, v, b, m)) =
     refuse old new last one other (NoChangeset f) (NoChangeset g) (ap (λ (h : Fault). NoChangeset h) (laws.changesets.fault f g at there changeset w v).0) a b n m
 changesets_agree laws limit old new last head changeset one other are (inl (f, at, w, a, n)) (inr (groups, fits, is, p)) =
@@ -72,12 +77,12 @@ changesets_agree laws limit old new last head changeset one other are (inr (grou
     let same : groups ≡ others = laws.changesets.one groups others fits fits' (sym is ∙ is') in
     groups_agree laws limit old new last head others one other are (subst (λ (g : List Group). TakesGroups limit old head g one new) same p) q
 
-caught_agree : (laws : Below) (old : HubState) (asker first count : ℕ) (answer other : List ℕ) → AreTables old.opening → TellsCaught old asker first count answer → TellsCaught old asker first count other → answer ≡ other
+caught_agree : (laws : Below) (old : HubState) (asker first count : ℕ) (answer other : List ℕ) → AreCatalogs old → TellsCaught old asker first count answer → TellsCaught old asker first count other → answer ≡ other
 caught_agree laws old asker first count answer other are (told, catches, a) (others, catches', b) =
-    let same : told ≡ others = laws.caught (catalog_at old.opening old.log first) asker count (drop first old.log) told others are catches catches' in
+    let same : told ≡ others = laws.caught (catalog_at old.opening old.log first) asker count (drop first old.log) told others (are first) catches catches' in
     a ∙ ap (λ (c : Caught). answer_spelling (caught_answer asker first old.log c)) same ∙ sym b
 
-asked_agree : (laws : Below) (limit : ℕ) (old new last : HubState) (asked : Result Asked WireFault) (answer other : List ℕ) → AreTables old.opening → AnswersAsked limit old asked answer new → AnswersAsked limit old asked other last → (answer ≡ other) × (new ≡ last)
+asked_agree : (laws : Below) (limit : ℕ) (old new last : HubState) (asked : Result Asked WireFault) (answer other : List ℕ) → AreCatalogs old → AnswersAsked limit old asked answer new → AnswersAsked limit old asked other last → (answer ≡ other) × (new ≡ last)
 asked_agree laws limit old new last (Err fault) answer other are (a, n) (b, m) = (a ∙ sym b, n ∙ sym m)
 asked_agree laws limit old new last (Ok (AsksPull first count)) answer other are (inl (lt, a), n) (inl (lt', b), m) = (a ∙ sym b, n ∙ sym m)
 asked_agree laws limit old new last (Ok (AsksPull first count)) answer other are (inl (lt, a), n) (inr (le, b), m) = absurd (omega arith)
@@ -92,7 +97,8 @@ asked_agree laws limit old new last (Ok (AsksPush head changeset)) answer other 
     let both = changesets_agree laws limit old new last head changeset some others are p q in
     (a ∙ ap (λ (o : Outcome). answer_spelling (push_answer head o)) both.0 ∙ sym b, both.1)
 
-pub one_service : Below → OneService
-one_service laws limit old new last request answer other are (one, asks, answers) (two, asks', answers') =
+pub one_service : CatalogsAreTables → Below → OneService
+one_service catalogs laws limit old new last request answer other hub (one, asks, answers) (two, asks', answers') =
     let same : one ≡ two = laws.request request one two asks asks' in
+    let are : AreCatalogs old = λ version. catalogs old.opening old.log version hub.tables hub.log in
     asked_agree laws limit old new last two answer other are (subst (λ (a : Result Asked WireFault). AnswersAsked limit old a answer new) same answers) answers'

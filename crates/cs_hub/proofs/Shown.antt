@@ -8,8 +8,8 @@ use Rattle.cs_value.specs.Key.{Place}
 use Rattle.cs_value.specs.declared.catalog.TableDef.{TableDef}
 use Rattle.std.specs.Prelude.{Bool, pos}
 use Rattle.cs_change.specs.Net.{net}
-use Rattle.cs_store.specs.log.Laws.{LogStates}
-use Rattle.cs_store.specs.log.Log.{state_of}
+use Rattle.cs_store.specs.log.Laws.{CatalogStays, LogStates}
+use Rattle.cs_store.specs.log.Log.{state_of, tables_at}
 use Rattle.cs_store.specs.declared.log.entry.LogEntry.{LogEntry}
 use Rattle.cs_normal.specs.State.{State, IsStateOf}
 use Rattle.cs_store.specs.Contents.{Bodies, Contents, place_cmp}
@@ -18,6 +18,7 @@ use Rattle.cs_hub.specs.log_store.Shows.{ShowsLog}
 use Rattle.cs_pending.specs.Calls.{ReadsStore}
 use Rattle.cs_pending.specs.Shows.{ShowsRows}
 use Rattle.cs_pending.specs.View.{View, undo}
+use Rattle.cs_hub.proofs.AppendingLemmas.Batches.{holds_opening}
 
 -- these rows, with nothing pending
 abbrev pub at_rest : State → View
@@ -28,21 +29,23 @@ unfolding net
 net_same marks None = refl
 net_same marks (Some row) = simp (same_row-refl row) refl
 
-state_there : LogStates → (opening : List TableDef) (log : List LogEntry) → AreTables opening → (contents : Contents) → ShowsLog opening contents log → IsStateOf opening (state_of log)
-state_there states opening log are contents shows =
-    subst (λ (es : List LogEntry). IsStateOf opening (state_of es)) (take_all (length log) log (omega arith)) (states opening log (length log) are shows.is_log)
+-- they are rows of the tables that the log opened with
+state_there : CatalogStays → LogStates → (opening : List TableDef) (log : List LogEntry) → AreTables opening → (contents : Contents) → ShowsLog opening contents log → IsStateOf opening (state_of log)
+state_there stays states opening log are contents shows =
+    subst (λ (es : List LogEntry). IsStateOf opening (state_of es)) (take_all (length log) log (omega arith))
+    (subst (λ (t : List TableDef). IsStateOf t (tables_at log (length log))) (stays opening log (length log) shows.is_log) (states opening log (length log) are shows.is_log))
 
-pub log_rows : LogStates → (opening : List TableDef) (contents : Contents) (log : List LogEntry) → AreTables opening → ShowsLog opening contents log → ShowsRows opening contents (at_rest (state_of log))
+pub log_rows : CatalogStays → LogStates → (opening : List TableDef) (contents : Contents) (log : List LogEntry) → AreTables opening → ShowsLog opening contents log → ShowsRows opening contents (at_rest (state_of log))
 unfolding undo
-log_rows states opening contents log are shows = record {
-  rows = shows.rows;
+log_rows stays states opening contents log are shows = record {
+  rows = holds_opening stays opening contents log shows;
   pends = record {
     stored = λ number table key is. ap (λ (held : Bodies). get held (pos number, key)) shows.pending ∙ get-empty place_cmp (pos number, key);
     fits = λ table key inside. tt;
   };
   sound = record {
-    before_state = state_there states opening log are contents shows;
-    after_state = state_there states opening log are contents shows;
+    before_state = state_there stays states opening log are contents shows;
+    after_state = state_there stays states opening log are contents shows;
     net_of = λ table key inside. sym (net_same table.key_marks (state_of log table.name key));
   };
 }

@@ -1,7 +1,7 @@
 -- An entry that others decided, behind a hub's log. (Profile of this project.)
 use Rattle.std.specs.Prelude.{◌≤◌, List, length}
 use Rattle.cs_value.specs.declared.catalog.TableDef.{TableDef}
-use Rattle.cs_store.specs.log.Log.{IsNextEntry}
+use Rattle.cs_store.specs.log.Log.{IsNextEntry, catalog_at}
 use Rattle.cs_store.specs.log.Stored.{IsEntryOf}
 use Rattle.cs_store.specs.declared.log.entry.LogEntry.{LogEntry}
 use Rattle.cs_hub.specs.declared.appending.fault.AppendFault.{AppendFault}
@@ -10,9 +10,10 @@ use Rattle.cs_hub.specs.declared.follow_fault.FollowFault.{FollowFault}
 use Rattle.cs_hub.specs.declared.follow_fault.FollowFault.TheVariants.{Memory, Full, Undefined, Device}
 use Rattle.cs_store.specs.declared.log.entry.TheConstants.{MAX_ENTRIES}
 
--- it fits behind a log: it is one of the tables and no larger than one may be. Each of its changes is defined on the tables there
+-- it fits behind a log: it is one of the tables that the catalog has there, and no larger than one may be. Each of its changes is
+-- defined on the rows there
 abbrev pub FitsBehind : List TableDef → List LogEntry → LogEntry → Type 0
-FitsBehind opening log entry = IsEntryOf opening entry × IsNextEntry opening log entry
+FitsBehind opening log entry = IsEntryOf (catalog_at opening log (length log)) entry × IsNextEntry opening log entry
 
 -- why it isn't appended; Memory and Device may come before
 abbrev pub IsFollowFault : List TableDef → List LogEntry → LogEntry → FollowFault → Type 0

@@ -29,11 +29,11 @@ OpenedShows =
     → (old ≡ nothing → ShowsLog opening new [] × (count ≡ 0))
     × ((log : List LogEntry) → ShowsLog opening old log → ShowsLog opening new log × (count ≡ length log))
 
--- a request has one answer, and leaves one hub
+-- a request has one answer, and leaves one hub: the catalog by which it is judged is one, since the hub's log is a log
 abbrev pub OneService : Type 0
 OneService =
     (limit : ℕ) (old new last : HubState) (request answer other : List ℕ)
-    → AreTables old.opening
+    → IsOfHub old
     → Serves limit old request answer new
     → Serves limit old request other last
     → (answer ≡ other) × (new ≡ last)

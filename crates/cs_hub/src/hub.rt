@@ -39,6 +39,7 @@ use crate::serving::{catch_told, pull_at, refuse};
 use cs_normal::Normal;
 use cs_opening::OpenFault;
 use cs_pending::rows::{RowAtKey, rows_of};
+use cs_store::log::laws::catalog_stays;
 use cs_store::log::{LogEntry, MAX_ENTRIES};
 use cs_store::{Batch, RowStore, StoreFault};
 use cs_value::{Catalog, Memory, TableDef};
@@ -175,6 +176,7 @@ impl<S: RowStore> Hub<S> {
         ensures newest { self.new.newest ≡ self.old.newest }
     {
         cs_store::log::laws::log_states();
+        catalog_stays();
         let _tables = self.catalog.tables();
         rows_of(self.alloc, &mut self.store, &self.catalog, table)
     }
@@ -334,6 +336,7 @@ impl<S: RowStore> Hub<S> {
         ensures counted { OnOk result (self.new.newest ≡ self.old.newest + 1) }
         ensures kept { OnErr result (self.new.newest ≡ self.old.newest) }
     {
+        catalog_stays();
         if self.newest >= MAX_ENTRIES {
             return Err(FollowFault::Full);
         }

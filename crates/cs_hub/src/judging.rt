@@ -23,12 +23,14 @@ use crate::refusal::Refusal;
 use cs_changeset::read;
 use cs_normalising::normalise;
 use cs_store::RowStore;
-use cs_store::log::{Body, LogEntry, MAX_CHANGESET};
+use cs_store::log::laws::{catalog_stays, none_widens};
+use cs_store::log::{LogEntry, MAX_CHANGESET};
 use cs_value::{Catalog, Memory};
 use cs_wire::{PushHead, SHORT, ShortAnswer};
 use std::alloc::{AllocError, Global};
 
 /// Whether an entry is one of these tables, no larger than one may be.
+/// One that widens a table is none, as long as none may be widened.
 pub(crate) fn is_entry_of(
     alloc: Global,
     catalog: &Catalog,
@@ -36,7 +38,10 @@ pub(crate) fn is_entry_of(
 ) -> Result<bool, Memory>
     ensures { IfOk result (λ is. IsTrue is ↔ IsEntryOf catalog.now entry.now) }
 {
-    let Body::Changes(changes) = &entry.body;
+    none_widens();
+    let Some(changes) = entry.body.changes() else {
+        return Ok(false);
+    };
     let _tables = changes.tables();
     if !changes.fits(catalog) {
         return Ok(false);
@@ -64,6 +69,7 @@ fn judge_bytes<S: RowStore>(
     ensures judged { S.honest store.new → (log : List Entry) → ShowsLog catalog.now (S.contents store.old) log → newest ≡ length log
         → JudgesBytes (MoreFailures (S.failed store.old) (S.failed store.new)) limit (hub_of catalog.now log) head changeset.now result }
 {
+    catalog_stays();
     let groups = read(alloc, changeset)?;
     let changes = normalise(alloc, catalog, &groups)?;
     let _tables = changes.tables();
@@ -115,6 +121,7 @@ pub(crate) fn judge_told<S: RowStore>(
     ensures judged { S.honest store.new → (log : List Entry) → ShowsLog catalog.now (S.contents store.old) log → newest ≡ length log
         → IfOk result (IsJudgedAs (MoreFailures (S.failed store.old) (S.failed store.new)) limit catalog.now log (Ok (AsksPush head changeset.now))) }
 {
+    catalog_stays();
     let room = Vec::with_capacity(alloc, SHORT)?;
     match judge_bytes(alloc, store, catalog, newest, limit, head, changeset) {
         Ok(Judgement::Append { entry, batch }) => {

@@ -1,9 +1,9 @@
-//! A replica that is worked by lines, over any store, reader and writer: edits, pushes, the hub's answers, and a look at its rows. It stands
-//! on `asks` for what lines ask, on `cs_replica` for what each call makes of the replica, and on `told` for what is
-//! printed. `work_on` opens the replica and does what is asked, and `node_on` reads it first. Each promises how it ends
-//! (`specs/working/Endings.antt`). The steps were made (`specs/working/LineStep.antt`, one case a line), and the replica's store holds what they
-//! left. Their texts are written, each before the next line is worked on. A failed device is told only where its count rose. Whatever stops it,
-//! what was done stays done. Its tests stand in `cs_replica_tests`.
+//! A replica that is worked by lines, over any store, reader and writer: edits, pushes, the hub's answers, and a look at its
+//! rows. It stands on `asks` for what lines ask, on `cs_replica` for what each call makes of the replica, and on `told` for what
+//! is printed. `work_on` opens the replica and does what is asked, and `node_on` reads it first. Each promises how it ends
+//! (`specs/working/Endings.antt`). The steps were made (`specs/working/LineStep.antt`, one case a line), and the replica's store
+//! holds what they left. Their texts are written, each before the next line is worked on. A failed device is told only where its
+//! count rose. Whatever stops it, what was done stays done. Its tests stand in `cs_replica_tests`.
 
 mod dump;
 mod fault;

@@ -11,16 +11,12 @@ use Rattle.cs_normal.specs.Headers.{header}
 use Rattle.cs_normal.specs.Laws.{HeadersFit}
 use Rattle.cs_normal.specs.Normal.{normal_spelling}
 use Rattle.cs_normal.specs.declared.normal.TableChanges.{TableChanges}
-use Rattle.cs_store.specs.log.Entry.{changes_of_body}
-use Rattle.cs_store.specs.log.Stored.{FitsBody}
-use Rattle.cs_store.specs.declared.log.body.Body.{Body}
-use Rattle.cs_store.specs.declared.log.body.Body.TheVariants.{Changes}
 use Rattle.cs_store.specs.declared.log.fault.BodyFault.{BodyFault}
 use Rattle.cs_store.specs.declared.log.fault.BodyFault.TheVariants.{Memory, NoBody}
 use Rattle.cs_wire.specs.Numbers.{eight_bytes}
 use Rattle.cs_wire.specs.OneSpelling.{after_eight, eight, eight_back, eight_length, eight_rest}
 use Rattle.cs_pending.specs.position.Values.{catalog_bytes}
-use Rattle.cs_opening.specs.Kept.{IsCatalogValue, IsFlightValue}
+use Rattle.cs_opening.specs.Kept.{IsCatalogValue, IsFlightValue, IsPendingValue}
 
 -- ---- numbers
 
@@ -55,20 +51,18 @@ flight_parts bytes own_changes own number tables changes o n is value =
       sym (eight_rest own own_changes) ∙ ap (drop 8) (sym both) ∙ eight_rest number (normal_spelling changes),
     )
 
-pub body_bytes : (shown extended kind own_changes : List ℕ) (changes : List TableChanges) → shown ≡ extended → extended ≡ kind ++ own_changes → kind ≡ 0 ∷ [] → own_changes ≡ normal_spelling changes → shown ≡ 0 ∷ normal_spelling changes
-body_bytes shown extended kind own_changes changes s e k is = s ∙ e ∙ ap₂ (λ (a b : List ℕ). a ++ b) k is
+-- what is behind the number are the changes
+pub value_of : (bytes own_changes : List ℕ) (own number : ℕ) (tables : List TableDef) (changes : List TableChanges) → own < 2 ^ 64 → number < 2 ^ 64 → bytes ≡ eight_bytes own ++ own_changes → IsFlightValue tables number bytes changes
+    → IsPendingValue tables own_changes changes
+value_of bytes own_changes own number tables changes o n is value =
+    record { fits = value.fits; normal = value.normal; size = value.size; spelled = (flight_parts bytes own_changes own number tables changes o n is value).1 }
 
-pub body_fits : (bytes : List ℕ) (tables : List TableDef) (number : ℕ) (changes : List TableChanges) → IsFlightValue tables number bytes changes → FitsBody tables (Changes changes)
-body_fits bytes tables number changes value = record { changes = (value.normal, value.fits); size = value.size }
+-- changes that were read, or weren't
+pub read_is : (read changes : List TableChanges) → (◌≡◌ {A = Result (List TableChanges) BodyFault} (Ok read) (Ok changes)) ⊎ (◌≡◌ {A = Result (List TableChanges) BodyFault} (Ok read) (Err Memory)) → read ≡ changes
+read_is read changes (inl e) = let f = e in cc
+read_is read changes (inr e) = absurd (let no = e in cc)
 
--- a body that was read, or wasn't
-pub read_is : (body : Body) (changes : List TableChanges) → (◌≡◌ {A = Result Body BodyFault} (Ok body) (Ok (Changes changes))) ⊎ (◌≡◌ {A = Result Body BodyFault} (Ok body) (Err Memory)) → changes_of_body body ≡ changes
-read_is body changes (inl e) =
-    let is : body ≡ Changes changes = (let f = e in cc) in
-    ap changes_of_body is
-read_is body changes (inr e) = absurd (let no = e in cc)
-
-pub not_refused : (changes : List TableChanges) → (◌≡◌ {A = Result Body BodyFault} (Err NoBody) (Ok (Changes changes))) ⊎ (◌≡◌ {A = Result Body BodyFault} (Err NoBody) (Err Memory)) → ⊥
+pub not_refused : (changes : List TableChanges) → (◌≡◌ {A = Result (List TableChanges) BodyFault} (Err NoBody) (Ok changes)) ⊎ (◌≡◌ {A = Result (List TableChanges) BodyFault} (Err NoBody) (Err Memory)) → ⊥
 not_refused changes (inl e) = absurd (let no = e in cc)
 not_refused changes (inr e) = absurd (let no = e in cc)
 

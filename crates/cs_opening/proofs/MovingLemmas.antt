@@ -1,4 +1,3 @@
-pub mod Bodies
 pub mod Batches
 pub mod Planned
 pub mod StoreLaws

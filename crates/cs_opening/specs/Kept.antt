@@ -14,6 +14,13 @@ pub record IsCatalogValue (bytes : List ℕ) (tables : List TableDef) : Type 0 w
   pub named : AllByRecursion (λ table. IsUtf8 table.name) tables
   pub spelled : bytes ≡ catalog_bytes tables
 
+-- the bytes are these changes: a normal changeset of the tables that a push can carry
+pub record IsPendingValue (tables : List TableDef) (bytes : List ℕ) (changes : List TableChanges) : Type 0 where
+  pub fits : FitsCatalog tables changes
+  pub normal : IsNormalChangeset changes
+  pub size : length (normal_spelling changes) ≤ MAX_CHANGESET
+  pub spelled : bytes ≡ normal_spelling changes
+
 -- the bytes are the push with this number, of these changes: a normal changeset of the tables that a push can carry
 pub record IsFlightValue (tables : List TableDef) (number : ℕ) (bytes : List ℕ) (changes : List TableChanges) : Type 0 where
   pub fits : FitsCatalog tables changes

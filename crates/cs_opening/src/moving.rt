@@ -8,6 +8,5 @@ mod edits;
 pub mod laws;
 mod moving;
 mod planning;
-mod value;
 
 pub use moving::open_store;

@@ -2,17 +2,16 @@
 
 ghost use Rattle.std.specs.Prelude.{◌≡◌, ◌↔◌, ◌≤◌, ◌<◌, ◌^◌, ◌++◌, ℕ, List, length, map, Some, IfOk, IfSome, IsTrue, OnOk};
 ghost use Rattle.cs_value.specs.declared.catalog.TableDef.{TableDef as OneTable};
-ghost use Rattle.cs_store.specs.log.Entry.{changes_of_body};
 ghost use Rattle.cs_normal.specs.Headers.{header};
 ghost use Rattle.cs_normal.specs.declared.normal.TableChanges.{TableChanges};
 ghost use Rattle.cs_wire.specs.Numbers.{eight_bytes};
-ghost use Rattle.cs_opening.specs.Kept.{IsCatalogValue, IsFlightValue};
+ghost use Rattle.cs_opening.specs.Kept.{IsCatalogValue, IsFlightValue, IsPendingValue};
 
 use cs_change::Group;
 use cs_changeset::{CodecFault, read};
 use cs_normal::{Normal, read_marks};
 use cs_pending::position::catalog_value;
-use cs_store::log::{Body, BodyFault, read_body};
+use cs_store::log::{BodyFault, MAX_CHANGESET, read_changes};
 use cs_value::{Catalog, Memory, TableDef};
 use cs_wire::split_u64;
 use std::alloc::{AllocError, Global};
@@ -78,17 +77,28 @@ pub(crate) fn catalog_in(alloc: Global, bytes: &[u8]) -> Result<Option<Catalog>,
     Ok(Some(catalog))
 }
 
-/// The changes that a body has.
-fn changes_of(body: Body) -> Normal
-    ensures { result ≡ changes_of_body body }
+/// The changes that these bytes are, if they are a changeset of the tables in normal form, of at most `MAX_CHANGESET` bytes.
+pub(crate) fn value_in(
+    alloc: Global,
+    catalog: &Catalog,
+    bytes: &[u8],
+) -> Result<Option<Normal>, Memory>
+    ensures found { IfOk result (λ read. IfSome read (IsPendingValue catalog.now bytes.now)) }
+    ensures only { (changes : List TableChanges) → IsPendingValue catalog.now bytes.now changes
+        → IfOk result (λ read. read ≡ Some changes) }
 {
-    match body {
-        Body::Changes(changes) => changes,
+    if bytes.len() as u64 > MAX_CHANGESET {
+        return Ok(None);
+    }
+    match read_changes(alloc, catalog, bytes) {
+        Ok(changes) => Ok(Some(changes)),
+        Err(BodyFault::NoBody) => Ok(None),
+        Err(BodyFault::Memory) => Err(AllocError),
     }
 }
 
 /// The changes of the push with this number that these bytes are, if they are those of one. Such bytes are the number in eight,
-/// and a changeset of the tables in normal form of at most `MAX_CHANGESET` bytes.
+/// and the changes behind it.
 pub(crate) fn flight_in(
     alloc: Global,
     catalog: &Catalog,
@@ -107,12 +117,5 @@ pub(crate) fn flight_in(
     if stored != number {
         return Ok(None);
     }
-    // The kind of a body that has changes.
-    let mut body = vec![in alloc; 0]?;
-    body.extend_from_slice(changeset)?;
-    match read_body(alloc, catalog, body.as_slice()) {
-        Ok(read) => Ok(Some(changes_of(read))),
-        Err(BodyFault::NoBody) => Ok(None),
-        Err(BodyFault::Memory) => Err(AllocError),
-    }
+    value_in(alloc, catalog, changeset)
 }

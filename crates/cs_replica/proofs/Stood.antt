@@ -14,10 +14,8 @@ use Rattle.cs_normal.specs.Normal.{FitsCatalog, change_of}
 use Rattle.cs_normal.specs.State.{AreApplied, AreSame, IsApplied, NetIsApplied, State}
 use Rattle.cs_normal.specs.declared.normal.TableChanges.{TableChanges}
 use Rattle.cs_store.specs.log.Entry.{WidensNone, entry_changes}
-use Rattle.cs_store.specs.log.Laws.{LongerLog, PlainSlices}
-use Rattle.cs_store.specs.log.Log.{IsLog, entries_between, tables_at}
-use Rattle.cs_store.specs.declared.log.body.Body.{Body}
-use Rattle.cs_store.specs.declared.log.body.Body.TheVariants.{Changes}
+use Rattle.cs_store.specs.log.Laws.{LongerLog, NoneWidens, PlainSlices}
+use Rattle.cs_store.specs.log.Log.{IsLog, catalog_at, entries_between, tables_at}
 use Rattle.cs_store.specs.declared.log.entry.LogEntry.{LogEntry}
 use Rattle.cs_store.specs.Contents.{Bodies, Contents, place_cmp, stored_pending}
 use Rattle.cs_pending.specs.Laws.{EditKeepsBefore}
@@ -26,6 +24,7 @@ use Rattle.cs_pending.specs.Shows.{IsSoundOf}
 use Rattle.cs_pending.specs.View.{View, before, middle, undo}
 use Rattle.cs_pending.specs.position.Shows.{ShowsAt, base, changes_at, flown}
 use Rattle.cs_pending.specs.declared.position.position.Position.{Position}
+use Rattle.cs_replica.specs.Stands.{StandsOn}
 use Rattle.cs_replica.specs.Laws.{EditStands, EntryStands, EqualAtRest, FirstStands, FlightFits, KeptStands, LeadStands, StandsLonger}
 
 -- ---- where it stands
@@ -71,38 +70,42 @@ one_there (first ∷ log) zero entry is = ap (λ (e : LogEntry). e ∷ []) (same
 one_there (first ∷ log) (suc version) entry is = one_there log version entry is
 
 -- what a changeset leaves of the same rows is the same
-one_left : (tables : List TableDef) (changes : List TableChanges) (some other : State) (end left : State) → AreSame some other → IsApplied tables changes some end → IsApplied tables changes other left → AreSame end left
-one_left tables changes some other end left same one two n k =
+one_left : (tables others : List TableDef) (changes : List TableChanges) (some other : State) (end left : State) → AreSame some other → IsApplied tables changes some end → IsApplied others changes other left → AreSame end left
+one_left tables others changes some other end left same one two n k =
     same_Some (left n k) (end n k) (sym (two.1 n k) ∙ ap (after_any (action_any (change_of n k changes))) (same n k) ∙ one.1 n k)
 
-pub lead_stands : LeadStands
-lead_stands tables log next changes position other view left within leads version applied stands = record {
+-- what leads from the log's tables at one version to those at another, whichever the catalogs are
+lead_there : (tables others : List TableDef) (log : List LogEntry) (next : ℕ) (changes : List TableChanges) (position other : Position) (view left : View) → next ≤ length log → IsApplied tables changes (tables_at log position.version) (tables_at log next)
+    → other.version ≡ next → IsApplied others changes (base position.flight view) (base other.flight left) → StandsOn log position view → StandsOn log other left
+lead_there tables others log next changes position other view left within leads version applied stands = record {
   within = omega (arith, within, version);
   on_tables = λ n k.
-      one_left tables changes (tables_at log position.version) (base position.flight view) (tables_at log next) (base other.flight left) stands.on_tables leads applied n k
+      one_left tables others changes (tables_at log position.version) (base position.flight view) (tables_at log next) (base other.flight left) stands.on_tables leads applied n k
       ∙ ap (λ (v : ℕ). tables_at log v n k) (sym version);
 }
 
-plain : (body : Body) → WidensNone body
-plain (Changes changes) = tt
+pub lead_stands : LeadStands
+lead_stands tables = lead_there tables tables
 
 abbrev IsPlain : LogEntry → Type 0
 IsPlain entry = WidensNone entry.body
 
 -- what one entry makes of the log's rows there is those at the next version
-entry_leads : PlainSlices → (tables : List TableDef) (log : List LogEntry) (version : ℕ) (entry : LogEntry) → IsLog tables log → slice_get log version ≡ Some entry → version + 1 ≤ length log
-    → IsApplied tables (entry_changes entry) (tables_at log version) (tables_at log (version + 1))
-entry_leads law tables log version entry is at within =
+entry_leads : PlainSlices → NoneWidens → (tables : List TableDef) (log : List LogEntry) (version : ℕ) (entry : LogEntry) → IsLog tables log → slice_get log version ≡ Some entry → version + 1 ≤ length log
+    → IsApplied (catalog_at tables log version) (entry_changes entry) (tables_at log version) (tables_at log (version + 1))
+entry_leads law none tables log version entry is at within =
+    let plain : WidensNone entry.body = none (catalog_at tables (take version log) (length (take version log))) entry.body (is version entry at).widens in
     let one : entries_between log version (version + 1) ≡ entry ∷ [] = drop-take version 1 log ∙ one_there log version entry at in
-    let slice = subst (λ (es : List LogEntry). AreApplied tables (map entry_changes es) (tables_at log version) (tables_at log (version + 1))) one
-    (law tables log version (version + 1) is (omega arith) (subst (All IsPlain) (sym one) (All-cons IsPlain entry [] (plain entry.body) (All-nil IsPlain)))) in
+    let slice = subst (λ (es : List LogEntry). AreApplied (catalog_at tables log version) (map entry_changes es) (tables_at log version) (tables_at log (version + 1))) one
+    (law tables log version (version + 1) is (omega arith) (subst (All IsPlain) (sym one) (All-cons IsPlain entry [] plain (All-nil IsPlain)))) in
     (slice.1.0, λ n k. slice.1.1 n k ∙ ap (λ (p : Place). Some p) (sym (slice.2 n k)))
 
-pub entry_stands : PlainSlices → EntryStands
-entry_stands law tables log entry position other view next is at version applied stands =
+pub entry_stands : PlainSlices → NoneWidens → EntryStands
+entry_stands law none tables log entry position other view next is at version applied stands =
     let within = slice_get_within log position.version entry at in
     let room : position.version + 1 ≤ length log = omega (arith, within) in
-    lead_stands tables log (position.version + 1) (entry_changes entry) position other view next room (entry_leads law tables log position.version entry is at room) version applied stands
+    lead_there (catalog_at tables log position.version) tables log (position.version + 1) (entry_changes entry) position other view next room
+    (entry_leads law none tables log position.version entry is at room) version applied stands
 
 -- ---- what is under way
 

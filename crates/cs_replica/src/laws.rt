@@ -33,6 +33,7 @@ pub fn steps_stand()
     ensures lead { LeadStands }
 {
     cs_store::log::laws::plain_slices();
+    cs_store::log::laws::none_widens();
 }
 
 /// What is under way is defined on the log's tables at the version.

@@ -4,7 +4,7 @@ use crate::given::*;
 use cs_map_store::MapStore;
 use cs_pending::EditFault;
 use cs_replica::{Replica, Told};
-use cs_store::log::{Body, LogEntry};
+use cs_store::log::LogEntry;
 use cs_store::{RowStore, Written};
 use cs_value::{Field, Value};
 use std::alloc::Global;
@@ -24,7 +24,9 @@ fn is_edited<S: RowStore>(alloc: Global, replica: &mut Replica<S>) -> bool {
 
 /// Whether the entry is the first push.
 fn is_first(alloc: Global, entry: &LogEntry) -> bool {
-    let Body::Changes(changes) = &entry.body;
+    let Some(changes) = entry.body.changes() else {
+        return false;
+    };
     entry.origin == 7 && entry.number == 1 && spells(alloc, changes, FIRST)
 }
 

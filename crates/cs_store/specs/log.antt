@@ -3,4 +3,5 @@ pub mod Laws
 pub mod Log
 pub mod Steps
 pub mod Stored
+pub mod Widens
 pub use Rattle.cs_normal.specs.State

@@ -1,5 +1,5 @@
 //! The log that a hub keeps and a replica follows: its entries, and the tables at each version. An entry is the push of a
-//! replica, with the changeset that it made. `specs/log/Log.antt` says what a log is and which tables and catalog it has at a
+//! replica, with the changeset that it made, or widens a table, which none may yet. `specs/log/Log.antt` says what a log is and which tables and catalog it has at a
 //! version; whoever stands above speaks of them by those names. `put_body` appends what an entry does as it is stored,
 //! `read_body` reads exactly that, and `is_stored_body` tells whether bytes are such. `laws` says that a longer log has the same
 //! tables at the versions that it had, and that there is one state a version. It says too that the entries between two
@@ -12,7 +12,7 @@ mod entry;
 mod fault;
 mod stored;
 
-pub use body::{Body, put_body, read_body};
+pub use body::{Body, put_body, read_body, read_changes};
 pub use entry::{LogEntry, MAX_CHANGESET, MAX_ENTRIES};
 pub use fault::BodyFault;
 pub use stored::is_stored_body;

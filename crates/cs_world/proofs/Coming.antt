@@ -222,7 +222,7 @@ module _ (laws : Below) (limit : ℕ) (old : World) (ms : List Member) where
         (λ refused. never (subst (λ (w : World). IsRefused other w) (sym two.new_is) (subst (λ (o : Outcome). IsRefused o after_two) (sym two.outcome_is) refused))) two.goes in
         let second_of = subst (λ (a : Asked). Serves limit (hub_of old.tables old.log) (request_spelling a) (answer_spelling two.answer) (hub_of old.tables two.log)) what second in
         let both =
-        laws.service limit (hub_of old.tables old.log) (hub_of old.tables one.log) (hub_of old.tables two.log) (request_spelling one.asked) (answer_spelling one.answer) (answer_spelling two.answer) s.tables first second_of in
+        laws.service limit (hub_of old.tables old.log) (hub_of old.tables one.log) (hub_of old.tables two.log) (request_spelling one.asked) (answer_spelling one.answer) (answer_spelling two.answer) (record { tables = s.tables; log = s.log }) first second_of in
         let answers : one.answer ≡ two.answer = one_answer one.answer two.answer one.fits two.fits both.0 in
         let logs : one.log ≡ two.log = ap (λ (h : HubState). h.log) both.1 in
         let there : last ≡ with_message (with_log twin one.log) (Tells one.r one.answer) =

@@ -1,6 +1,6 @@
 -- An event has an outcome that is no refusal.
 use Rattle.std.proofs.Common.{◌≡◌, ◌∙◌, ◌++◌, ◌<◌, ◌^◌, ℕ, List, [], ◌∷◌, map, Option, Some, None, Result, Ok, Err, length, slice_get, refl, sym, ap, subst, inl, inr, arith}
-use Rattle.std.specs.Prelude.{◌⊎◌, IsUtf8, drop}
+use Rattle.std.specs.Prelude.{◌⊎◌, IsUtf8, drop, min}
 use Rattle.std.specs.List.{AllByRecursion}
 use Rattle.std.proofs.lemmas.Bool.{cases_lt}
 use Rattle.std.proofs.lemmas.List.Elements.{All-drop, All-weaker}
@@ -9,10 +9,11 @@ use Rattle.cs_conflict.specs.Wishes.{guarded}
 use Rattle.cs_conflict.specs.declared.wish.Wish.{Wish}
 use Rattle.cs_hub.specs.Refusals.{refusal_code, refusal_of_hub}
 use Rattle.cs_hub.specs.Serves.{Serves, caught_answer, or_refusal, push_answer, refused}
+use Rattle.cs_hub.specs.catching.Catches.{Catches}
 use Rattle.cs_hub.specs.catching.Laws.{CatchHasAnswer}
 use Rattle.cs_hub.specs.declared.catching.caught.Caught.{Caught}
 use Rattle.cs_hub.specs.declared.catching.caught.Caught.TheVariants as caught
-use Rattle.cs_hub.specs.judgement.Hub.{HubState, entries_from}
+use Rattle.cs_hub.specs.judgement.Hub.{HubState, entries_from, judging}
 use Rattle.cs_hub.specs.judgement.Judged.{hub_of}
 use Rattle.cs_hub.specs.judgement.Laws.{PushHasAnswer}
 use Rattle.cs_hub.specs.judgement.Pushes.{Push, Pushes, entry_of_push}
@@ -22,6 +23,8 @@ use Rattle.cs_hub.specs.declared.judgement.push.Pushed.{Pushed}
 use Rattle.cs_hub.specs.declared.judgement.push.Pushed.TheVariants as pushed
 use Rattle.cs_store.specs.declared.log.entry.LogEntry.{LogEntry}
 use Rattle.cs_store.specs.log.Entry.{entry_changes}
+use Rattle.cs_store.specs.log.Laws.{CatalogStays}
+use Rattle.cs_normalising.specs.NormalFormOf.{IsNormalFormOf}
 use Rattle.cs_store.specs.log.Stored.{AreChangesOf}
 use Rattle.cs_replica.specs.StepLaws.{EditHasResult, IsInRange, IsOfEdit, IsOfPushed, PushHasResult}
 use Rattle.cs_replica.specs.Step.{IsEditedTo, IsPushAsked}
@@ -78,6 +81,7 @@ pub record Below : Type 0 where
   pub again : NormalAgain
   pub answer : AnswerHasResult IsWished (λ wishes. Unit {0})
   pub catch : CatchHasAnswer
+  pub stays : CatalogStays
 
 there_or_not : {A : Type 0} (o : Option A) → (o ≡ None) ⊎ ((a : A) × (o ≡ Some a))
 there_or_not None = inl refl
@@ -274,10 +278,11 @@ module _ (laws : Below) (limit : ℕ) (small : limit < 2 ^ 32) (world : World) (
   push_served : (head : PushHead) (changeset : List ℕ) → FitsRequest (AsksPush head changeset) → IsTruePush world head changeset → Served limit world (AsksPush head changeset)
   push_served head changeset fits t =
       let the_push : Push = record { head = head; changes = t.changes } in
-      let pushes = laws.push limit the_hub the_push (record { tables = s.tables; log = s.log }) t.of_tables in
+      let by_version : world.tables ≡ judging the_hub head.base = sym (laws.stays world.tables world.log (min head.base (length world.log)) s.log) in
+      let pushes = laws.push limit the_hub the_push (record { tables = s.tables; log = s.log }) (subst (λ (ts : List TableDef). AreChangesOf ts t.changes) by_version t.of_tables) in
       let so = judged_so the_push pushes.0 pushes.1 pushes.2 in
       let taken = laws.taken t.changes t.of_tables.0 in
-      let form = laws.again world.tables t.changes s.tables t.of_tables.0 t.of_tables.1 in
+      let form = subst (λ (ts : List TableDef). IsNormalFormOf ts (groups_of t.changes) t.changes) by_version (laws.again world.tables t.changes s.tables t.of_tables.0 t.of_tables.1) in
       record {
         bytes = answer_spelling (push_answer head (or_refusal pushes.0));
         log = so.0;
@@ -326,10 +331,11 @@ module _ (laws : Below) (limit : ℕ) (small : limit < 2 ^ 32) (world : World) (
         | inr within ↦
             let of_tables = All-weaker (IsStoredEntry world.tables) (λ (e : LogEntry). AreChangesOf world.tables (entry_changes e)) (λ e stored. stored.0.changes) (drop first world.log) (All-drop (IsStoredEntry world.tables) first world.log s.entries) in
             let told = laws.catch world.tables asker count (drop first world.log) s.tables of_tables in
+            let by_version = subst (λ (tables : List TableDef). Catches tables asker count (drop first world.log) told.0) (sym (laws.stays world.tables world.log first s.log)) told.1 in
             record {
               bytes = answer_spelling (caught_answer asker first world.log told.0);
               log = world.log;
-              serves = (Ok (AsksCatch asker first count), (fits, refl), (inr (within, (told.0, told.1, refl)), refl));
+              serves = (Ok (AsksCatch asker first count), (fits, refl), (inr (within, (told.0, by_version, refl)), refl));
               well = catch_well asker first told.0;
             }
       ]

@@ -1,18 +1,19 @@
 -- What the hub's answers make of a replica of a sound world: it stands on the log again, and no entry was bad.
-use Rattle.std.proofs.Common.{◌≡◌, ◌<◌, ◌^◌, ◌∙◌, ℕ, zero, suc, List, [], ◌∷◌, Option, Some, None, Result, Ok, Err, slice_get, refl, sym, ap, subst, inl, inr, arith}
+use Rattle.std.proofs.Common.{◌≡◌, ◌<◌, ◌^◌, ◌∙◌, ℕ, zero, suc, List, [], ◌∷◌, take, drop, length, Option, Some, None, Result, Ok, Err, slice_get, refl, sym, ap, subst, inl, inr, arith}
 use Rattle.std.specs.Prelude.{All, IsSome}
+use Rattle.std.proofs.lemmas.List.{take-append-drop}
 use Rattle.std.proofs.lemmas.List.Elements.{All-head, All-tail}
 use Rattle.std.proofs.lemmas.Option.{slice_get_within}
 use Rattle.cs_value.specs.Key.{Place}
 use Rattle.cs_value.specs.declared.catalog.TableDef.{TableDef}
 use Rattle.cs_change.specs.Action.{action_any, after_any}
 use Rattle.cs_conflict.specs.declared.wish.Wish.{Wish}
-use Rattle.cs_store.specs.log.Entry.{body_spelling, changes_of_body, entry_changes}
-use Rattle.cs_store.specs.log.Laws.{OneBody}
-use Rattle.cs_store.specs.log.Log.{tables_at}
+use Rattle.cs_store.specs.log.Entry.{WidensNone, body_spelling, changes_of_body, entry_changes}
+use Rattle.cs_store.specs.log.Laws.{CatalogStays, FrontIsLog, NoneWidens, OneBody}
+use Rattle.cs_store.specs.log.Log.{IsLog, tables_at}
 use Rattle.cs_store.specs.log.Stored.{AreChangesOf}
 use Rattle.cs_store.specs.declared.log.body.Body.{Body}
-use Rattle.cs_store.specs.declared.log.body.Body.TheVariants.{Changes}
+use Rattle.cs_store.specs.declared.log.body.Body.TheVariants.{Changes, Widen}
 use Rattle.cs_store.specs.declared.log.entry.LogEntry.{LogEntry}
 use Rattle.cs_normalising.specs.Laws.{NormalAgain, OneNormalForm}
 use Rattle.cs_normalising.specs.NormalFormOf.{IsNormalFormOf}
@@ -67,6 +68,9 @@ pub record Below : Type 0 where
   pub taken : NormalIsTaken
   pub again : NormalAgain
   pub body : OneBody
+  pub none : NoneWidens
+  pub stays : CatalogStays
+  pub front : FrontIsLog
   pub rows : OneLogRows
   pub lead : LeadStands
   pub consolidated : ConsolidatedLeads
@@ -101,21 +105,29 @@ applied_same tables changes some other left end same too applied =
     (applied.0, λ n k. ap (after_any (action_any (change_of n k changes))) (same n k) ∙ (applied.1 n k ∙ ap (λ (place : Place). Some place) (sym (too n k))))
 
 -- the bytes of a body are those of its changes
-spelled_body : (body : Body) → body_spelling body ≡ normal_spelling (changes_of_body body)
-spelled_body (Changes changes) = refl
+spelled_body : (body : Body) → WidensNone body → body_spelling body ≡ normal_spelling (changes_of_body body)
+spelled_body (Changes changes) none = refl
+spelled_body (Widen table width) none = absurd none
 
 module _ (laws : Below) (limit : ℕ) (small : limit < 2 ^ 32) (world : World) (s : IsSound limit world) where
   -- the bytes of changes are of one body
-  one_changes : (changes : List TableChanges) (body : Body) → AreChangesOf world.tables changes → AreChangesOf world.tables (changes_of_body body) → normal_spelling changes ≡ normal_spelling (changes_of_body body)
+  one_changes : (changes : List TableChanges) (body : Body) → WidensNone body → AreChangesOf world.tables changes → AreChangesOf world.tables (changes_of_body body) → normal_spelling changes ≡ normal_spelling (changes_of_body body)
       → changes_of_body body ≡ changes
-  one_changes changes (Changes others) fits its same =
-      let both : Changes others ≡ Changes changes = laws.body world.tables (Changes others) (Changes changes) s.tables its fits (ap (λ (bytes : List ℕ). 0 ∷ bytes) (sym same)) in
+  one_changes changes (Widen table width) none fits its same = absurd none
+  one_changes changes (Changes others) none fits its same =
+      let both : Changes others ≡ Changes changes = laws.body world.tables (Changes others) (Changes changes) s.tables its fits tt tt (ap (λ (bytes : List ℕ). 0 ∷ bytes) (sym same)) in
       ap changes_of_body both
 
   stays : (position : Position) (end : View) → StandsOn world.log position end → IsOn world.log position position end
   stays position end stands = record { stands = stands; id = refl; number = refl; flight = λ changes is. (is, refl) }
 
   -- ---- entries
+
+  -- the first of them are a log
+  first_entries : (version : ℕ) → IsLog world.tables (take version world.log)
+  first_entries version =
+      laws.front world.tables (take version world.log) (drop version world.log)
+      (subst (λ (l : List LogEntry). IsLog world.tables l) (sym (take-append-drop version world.log)) s.log)
 
   pub stored_at : (at : ℕ) (entry : LogEntry) → slice_get world.log at ≡ Some entry → IsStoredEntry world.tables entry
   stored_at at entry there = all_at (IsStoredEntry world.tables) world.log at entry s.entries there
@@ -128,10 +140,11 @@ module _ (laws : Below) (limit : ℕ) (small : limit < 2 ^ 32) (world : World) (
         kind = refl;
         origin = refl;
         number = refl;
+        plain = laws.none world.tables entry.body stored.0.widens;
         read = record {
           groups = groups_of (entry_changes entry);
           fits = own.0;
-          spelled = spelled_body entry.body ∙ sym own.1;
+          spelled = spelled_body entry.body (laws.none world.tables entry.body stored.0.widens) ∙ sym own.1;
           form = laws.again world.tables (entry_changes entry) s.tables stored.0.changes.0 stored.0.changes.1;
         };
       }
@@ -179,7 +192,11 @@ module _ (laws : Below) (limit : ℕ) (small : limit < 2 ^ 32) (world : World) (
         let within = slice_get_within world.log position.version e.0 e.1 in
         elim (bad.bad e.0 own) [
           | inl last ↦ omega (arith, last, within, s.short, small)
-          | inr wrong ↦ wrong.1 (defined_same world.tables (entry_changes e.0) (tables_at world.log position.version) (base position.flight view) stands.on_tables (s.log position.version e.0 e.1).defined)
+          | inr wrong ↦
+              let next = s.log position.version e.0 e.1 in
+              let there = subst (λ (tables : List TableDef). IsDefinedOn tables (entry_changes e.0) (tables_at world.log position.version))
+              (laws.stays world.tables (take position.version world.log) (length (take position.version world.log)) (first_entries position.version)) next.defined in
+              wrong.1 (defined_same world.tables (entry_changes e.0) (tables_at world.log position.version) (base position.flight view) stands.on_tables there, (stored_at position.version e.0 e.1).0.widens)
         ]
 
   -- ---- entries that were taken together
@@ -234,7 +251,7 @@ module _ (laws : Below) (limit : ℕ) (small : limit < 2 ^ 32) (world : World) (
         let both = s.once _ _ (normal_spelling changes) (normal_spelling (entry_changes a.entry)) one two (sym is.own ∙ sym a.by) (sym is.last ∙ sym a.numbered) in
         let stored = stored_at a.at a.entry a.there in
         let fits = subst (λ (f : Option (List TableChanges)). AreChangesOf world.tables (flown f)) flight (p.shown.under_way.normal, p.shown.under_way.fits) in
-        (a.entry, there, one_changes changes a.entry.body fits stored.0.changes both.1)
+        (a.entry, there, one_changes changes a.entry.body (laws.none world.tables a.entry.body stored.0.widens) fits stored.0.changes both.1)
 
     its_entry_stands : (changes : List TableChanges) (entry : LogEntry) → before.position.flight ≡ Some changes → slice_get world.log before.position.version ≡ Some entry → entry_changes entry ≡ changes
         → StandsOn world.log (confirmed before.position) before.view

@@ -1,12 +1,14 @@
 -- What is sound has the headline.
-use Rattle.std.proofs.Common.{◌≡◌, ◌∙◌, ℕ, List, [], Option, Some, None, refl, sym, ap, arith}
+use Rattle.std.proofs.Common.{◌≡◌, ◌∙◌, ℕ, List, [], Option, Some, None, refl, sym, ap, subst, arith}
+use Rattle.std.specs.Prelude.{Contains}
 use Rattle.std.proofs.lemmas.List.Elements.{All-nil}
+use Rattle.cs_value.specs.declared.catalog.TableDef.{TableDef}
 use Rattle.cs_value.specs.Key.{Place}
 use Rattle.cs_change.specs.Action.{Action, after_any}
 use Rattle.cs_change.specs.Laws.{NetTakes}
 use Rattle.cs_store.specs.log.Entry.{entry_changes}
-use Rattle.cs_store.specs.log.Laws.{EmptyIsLog}
-use Rattle.cs_store.specs.log.Log.{tables_at}
+use Rattle.cs_store.specs.log.Laws.{CatalogStays, EmptyIsLog}
+use Rattle.cs_store.specs.log.Log.{catalog_at, tables_at}
 use Rattle.cs_normal.specs.Normal.{normal_spelling}
 use Rattle.cs_normal.specs.State.{IsApplied, OneKeyStands, State}
 use Rattle.cs_normal.specs.declared.normal.TableChanges.{TableChanges}
@@ -27,6 +29,7 @@ pub record Below : Type 0 where
   pub rest : EqualAtRest
   pub key : OneKeyStands
   pub net : NetTakes
+  pub stays : CatalogStays
 
 module _ (laws : Below) (limit : ℕ) (w : World) (s : IsSound limit w) where
   -- net changes lead from the rows before them to those behind them
@@ -47,12 +50,15 @@ module _ (laws : Below) (limit : ℕ) (w : World) (s : IsSound limit w) where
     flight_applied (Some changes) flight =
         laws.flight w.tables p.contents w.log m.position changes m.view s.tables p.shown flight p.stands
 
+    by_version : w.tables ≡ catalog_at w.tables w.log m.position.version
+    by_version = sym (laws.stays w.tables w.log m.position.version s.log)
+
     hubs_rows : HasHubsRows w m
     hubs_rows = record {
       within = p.stands.within;
       middle = middle m.view;
-      flight = flight_applied m.position.flight refl;
-      pending = leads m.view.pending m.view.tables p.shown.rows.sound;
+      flight = subst (λ (ts : List TableDef). IsApplied ts (flown m.position.flight) (tables_at w.log m.position.version) (middle m.view)) by_version (flight_applied m.position.flight refl);
+      pending = subst (λ (ts : List TableDef). LeadTo ts m.view.pending (middle m.view) m.view.tables) by_version (leads m.view.pending m.view.tables p.shown.rows.sound);
     }
 
   pub headline : Headline w
@@ -65,7 +71,8 @@ module _ (laws : Below) (limit : ℕ) (w : World) (s : IsSound limit w) where
     equal = λ r q one other at its version rest too table key inside.
         let p = s.placed r one at in
         let o = s.placed q other its in
-        laws.rest w.tables w.log p.contents o.contents one.position other.position one.view other.view p.shown o.shown p.stands o.stands version rest.0 too.0 rest.1 too.1 table key inside;
+        laws.rest w.tables w.log p.contents o.contents one.position other.position one.view other.view p.shown o.shown p.stands o.stands version rest.0 too.0 rest.1 too.1 table key
+        (subst (λ (ts : List TableDef). Contains ts table) (laws.stays w.tables w.log one.position.version s.log) inside);
   }
 
 pub sound_has_headline : Below → SoundHasHeadline

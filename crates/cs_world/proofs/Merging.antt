@@ -1,6 +1,7 @@
 -- Entries that a replica of a sound world pulls are merges over the log's tables.
 use Rattle.std.proofs.Common.{◌≡◌, ◌<◌, ◌^◌, ◌+◌, ◌∙◌, ℕ, zero, suc, List, [], ◌∷◌, Option, Some, None, Result, Ok, Err, slice_get, slice_set, refl, sym, ap, subst, inl, inr, arith}
-use Rattle.std.specs.Prelude.{◌⊎◌}
+use Rattle.std.specs.Prelude.{◌⊎◌, Contains}
+use Rattle.cs_value.specs.declared.catalog.TableDef.{TableDef}
 use Rattle.cs_value.specs.Facts.{by_test}
 use Rattle.cs_value.specs.Key.{Place}
 use Rattle.cs_apply.specs.NormalTasks.{found_at, found_is, of_one, tasks_are}
@@ -124,13 +125,16 @@ module _ (laws : Below) (limit : ℕ) (small : limit < 2 ^ 32) (world : World) (
         subst (λ (log : State). TakeAll IsWished log before.tables (middle after) after.tables all wishes unused) (λ i n k. log_is n k i) t.takes in
         record {
           each = each_merged t over;
-          by_wishes = subst (λ (theirs : State). TakeAll IsWished (tables_at world.log position.version) before.tables theirs after.tables all wishes unused) (λ i n k. next_is n k i) over;
+          by_wishes =
+              subst (λ (ts : List TableDef). TakeAll IsWished (tables_at world.log position.version) before.tables (tables_at world.log next) after.tables (tasks ts (groups_of changes)) wishes unused)
+              (sym (laws.answers.stays world.tables world.log position.version s.log))
+              (subst (λ (theirs : State). TakeAll IsWished (tables_at world.log position.version) before.tables theirs after.tables all wishes unused) (λ i n k. next_is n k i) over);
           others = t.others;
         }
 
     pending_from : (left : Contents) → ShowsAt world.tables left (brought position next pending) after → IsPendingFrom world next after
     pending_from left shows table key inside =
-        shows.rows.sound.net_of table key inside ∙ ap (λ (b : Place). net table.key_marks b (after.tables table.name key)) (next_is table.name key)
+        shows.rows.sound.net_of table key (subst (λ (ts : List TableDef). Contains ts table) (laws.answers.stays world.tables world.log next s.log) inside) ∙ ap (λ (b : Place). net table.key_marks b (after.tables table.name key)) (next_is table.name key)
 
   -- ---- one entry
 
@@ -142,7 +146,7 @@ module _ (laws : Below) (limit : ℕ) (small : limit < 2 ^ 32) (world : World) (
     pulls_so : PullsOne IsWished world.tables position entry before wishes after unused
         → IsConfirmed position entry before after wishes unused ⊎ ((IsOwn position entry → ⊥) × IsMerged world position.version (position.version + 1) (entry_changes entry) before after wishes unused)
     pulls_so (room, inl (own, rows, asked)) = inl (record { own = own; rows = rows; unasked = asked })
-    pulls_so (room, inr (others, t)) = inr (others, merged position (position.version + 1) (entry_changes entry) of_tables before after wishes unused stood pending stands t)
+    pulls_so (room, inr (others, plain, t)) = inr (others, merged position (position.version + 1) (entry_changes entry) of_tables before after wishes unused stood pending stands t)
 
     pulls_entry : (left : Contents) → PullsOne IsWished world.tables position entry before wishes after unused → ShowsAt world.tables left (taken position pending) after
         → PullsEntry world position before after wishes unused

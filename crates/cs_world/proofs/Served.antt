@@ -1,6 +1,6 @@
 -- What the hub answers to a request of a sound world. It is true of the log after it, and the log grew by that push at most.
 use Rattle.std.proofs.Common.{◌≡◌, ◌≢◌, ◌≤◌, ◌<◌, ◌+◌, ◌^◌, ◌∙◌, ◌++◌, ℕ, List, [], ◌∷◌, Option, Some, None, Result, Ok, Err, length, map, slice_get, drop, option_map, refl, sym, ap, subst, inl, inr, arith, append-nil, length-append}
-use Rattle.std.specs.Prelude.{◌⊎◌, All}
+use Rattle.std.specs.Prelude.{◌⊎◌, All, min}
 use Rattle.std.proofs.lemmas.List.{length-drop, length-take, take_all}
 use Rattle.std.proofs.lemmas.List.Elements.{All-append, All-cons, All-drop, All-nil, All-take, All-weaker}
 use Rattle.std.proofs.lemmas.Option.{slice_get-map}
@@ -11,14 +11,17 @@ use Rattle.cs_hub.specs.catching.Catches.{Catches}
 use Rattle.cs_hub.specs.catching.Laws.{CaughtAreOthers, CaughtIsShort}
 use Rattle.cs_hub.specs.declared.catching.caught.Caught.{Caught}
 use Rattle.cs_hub.specs.declared.catching.caught.Caught.TheVariants as caught
-use Rattle.cs_hub.specs.judgement.Hub.{HubState, entries_from}
+use Rattle.cs_hub.specs.judgement.Hub.{HubState, entries_from, judging}
 use Rattle.cs_hub.specs.judgement.Judged.{hub_of}
 use Rattle.cs_hub.specs.judgement.Pushes.{CanFollow, Push, Pushes, entry_of_push}
 use Rattle.cs_hub.specs.declared.judgement.fault.HubFault.{HubFault}
 use Rattle.cs_hub.specs.declared.judgement.fault.HubFault.TheVariants as hub
 use Rattle.cs_hub.specs.declared.judgement.push.Pushed.{Pushed}
 use Rattle.cs_hub.specs.declared.judgement.push.Pushed.TheVariants as pushed
-use Rattle.cs_store.specs.log.Laws.{AppendedIsLog}
+use Rattle.cs_normalising.specs.NormalFormOf.{IsNormalFormOf, IsUnfit}
+use Rattle.cs_value.specs.declared.catalog.TableDef.{TableDef}
+use Rattle.cs_store.specs.log.Entry.{WidensNone}
+use Rattle.cs_store.specs.log.Laws.{AppendedIsLog, CatalogStays, NoneWidens}
 use Rattle.cs_store.specs.log.Log.{IsLog, state_of}
 use Rattle.cs_store.specs.declared.log.entry.LogEntry.{LogEntry}
 use Rattle.cs_store.specs.declared.log.entry.TheConstants.{MAX_CHANGESET}
@@ -52,6 +55,8 @@ pub record Below : Type 0 where
   pub answer : OneToldAnswer
   pub read : ToldAreRead
   pub appended : AppendedIsLog
+  pub none : NoneWidens
+  pub stays : CatalogStays
   pub caught : CaughtAreOthers
   pub caught_short : CaughtIsShort
   pub most : MAX_CHANGESET ≡ 4294967295
@@ -113,6 +118,7 @@ module _ (laws : Below) (limit : ℕ) (small : limit < 2 ^ 32) (world : World) (
       laws.read first (entries_from first count world.log) in_range (omega (arith, n, m, s.short, small))
       (All-weaker (IsStoredEntry world.tables) FitsMessage (λ e stored. stored.0.size) (entries_from first count world.log) some)
       (All-weaker (IsStoredEntry world.tables) HasNumbersInRange (λ e stored. stored.1) (entries_from first count world.log) some)
+      (All-weaker (IsStoredEntry world.tables) (λ e. WidensNone e.body) (λ e stored. laws.none world.tables e.body stored.0.widens) (entries_from first count world.log) some)
 
   -- ---- entries are told together
 
@@ -170,10 +176,11 @@ module _ (laws : Below) (limit : ℕ) (small : limit < 2 ^ 32) (world : World) (
     -- on the newest version it follows
     at_newest : head.base ≡ length world.log → CanFollow (hub_of world.tables world.log) the_push
     at_newest at_end =
-        subst (λ (l : List LogEntry). IsDefinedOn world.tables t.changes (state_of l)) (take_all head.base world.log (omega (arith, at_end))) t.defined
+        subst (λ (tables : List TableDef). IsDefinedOn tables t.changes (state_of world.log)) (sym (laws.stays world.tables world.log (length world.log) s.log))
+        (subst (λ (l : List LogEntry). IsDefinedOn world.tables t.changes (state_of l)) (take_all head.base world.log (omega (arith, at_end))) t.defined)
 
     stored : IsStoredEntry world.tables the_entry
-    stored = (record { changes = t.of_tables; size = t.size }, (fits.origin_fits, fits.number_fits))
+    stored = (record { changes = t.of_tables; widens = tt; size = t.size }, (fits.origin_fits, fits.number_fits))
 
     appended_so : (bytes : List ℕ) (log : List LogEntry) → head.base ≡ length world.log → length world.log < limit
         → bytes ≡ answer_spelling (Short (Accepted head.origin head.number (head.base + 1))) → log ≡ world.log ++ the_entry ∷ []
@@ -187,7 +194,7 @@ module _ (laws : Below) (limit : ℕ) (small : limit < 2 ^ 32) (world : World) (
           spelled = spelled;
           more = the_entry ∷ [];
           log_is = refl;
-          is_log = laws.appended world.tables world.log the_entry s.log (record { normal = t.of_tables.0; defined = follows });
+          is_log = laws.appended world.tables world.log the_entry s.log (record { normal = t.of_tables.0; defined = follows; widens = tt });
           entries = All-append (IsStoredEntry world.tables) world.log (the_entry ∷ []) s.entries (All-cons (IsStoredEntry world.tables) the_entry [] stored (All-nil (IsStoredEntry world.tables)));
           short = omega (arith, n, room);
           new_at = λ at entry there. elim (in_append world.log (the_entry ∷ []) entry at there) [
@@ -250,13 +257,19 @@ module _ (laws : Below) (limit : ℕ) (small : limit < 2 ^ 32) (world : World) (
         → IsServed limit world (AsksPush head changeset) bytes log
     normal_taken bytes log outcome spelled (told, pushes, is) = judged bytes log told outcome spelled is pushes
 
+    -- it is judged by the tables of the world
+    judged_by : judging (hub_of world.tables world.log) head.base ≡ world.tables
+    judged_by = laws.stays world.tables world.log (min head.base (length world.log)) s.log
+
     groups_taken : (bytes : List ℕ) (log : List LogEntry) (outcome : Outcome) → bytes ≡ answer_spelling (push_answer head outcome)
         → TakesGroups limit (hub_of world.tables world.log) head (groups_of t.changes) outcome (hub_of world.tables log)
         → IsServed limit world (AsksPush head changeset) bytes log
     groups_taken bytes log outcome spelled (inl (fault, some, wrong, is, same)) =
+        let wrong_there = subst (λ (ts : List TableDef). IsUnfit fault ts (groups_of t.changes)) judged_by wrong in
         let form = laws.again world.tables t.changes s.tables t.of_tables.0 t.of_tables.1 in
-        absurd (some (laws.fit fault world.tables (groups_of t.changes) s.tables form.fit wrong))
-    groups_taken bytes log outcome spelled (inr (changes, form, taken)) =
+        absurd (some (laws.fit fault world.tables (groups_of t.changes) s.tables form.fit wrong_there))
+    groups_taken bytes log outcome spelled (inr (changes, formed, taken)) =
+        let form = subst (λ (ts : List TableDef). IsNormalFormOf ts (groups_of t.changes) changes) judged_by formed in
         let own = laws.again world.tables t.changes s.tables t.of_tables.0 t.of_tables.1 in
         let same : changes ≡ t.changes = laws.form world.tables (groups_of t.changes) changes t.changes s.tables form own in
         normal_taken bytes log outcome spelled
@@ -287,7 +300,8 @@ module _ (laws : Below) (limit : ℕ) (small : limit < 2 ^ 32) (world : World) (
   answered (AsksCatch asker first count) bytes log fits t (inl (above, is), same) =
       kept (AsksCatch asker first count) bytes (Short (Refused 40)) log (ap (λ (h : HubState). h.log) same) (omega arith) is (λ e. omega (arith, e))
   answered (AsksCatch asker first count) bytes log fits t (inr (within, (told, catches, is)), same) =
-      caught_so asker first count bytes log fits within (ap (λ (h : HubState). h.log) same) told catches is
+      let by_tables = subst (λ (tables : List TableDef). Catches tables asker count (drop first world.log) told) (laws.stays world.tables world.log first s.log) catches in
+      caught_so asker first count bytes log fits within (ap (λ (h : HubState). h.log) same) told by_tables is
   answered (AsksPush head changeset) bytes log fits t (outcome, taken, is) =
       bytes_taken head changeset t fits bytes log outcome is taken
 

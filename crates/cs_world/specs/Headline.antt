@@ -2,7 +2,7 @@
 use Rattle.std.specs.Prelude.{◌≡◌, ◌≢◌, ◌≤◌, ℕ, List, Contains, length, Some, None, slice_get}
 use Rattle.cs_value.specs.declared.catalog.TableDef.{TableDef}
 use Rattle.cs_change.specs.Action.{action_any, after_any}
-use Rattle.cs_store.specs.log.Log.{tables_at}
+use Rattle.cs_store.specs.log.Log.{catalog_at, tables_at}
 use Rattle.cs_store.specs.declared.log.entry.LogEntry.{LogEntry}
 use Rattle.cs_normal.specs.State.{State, IsApplied}
 use Rattle.cs_pending.specs.View.{Changed}
@@ -26,17 +26,19 @@ LeadTo tables changed before after =
 pub record HasHubsRows (world : World) (member : Member) : Type 0 where
   pub within : member.position.version ≤ length world.log
   pub middle : State
-  pub flight : IsApplied world.tables (flown member.position.flight) (tables_at world.log member.position.version) middle
-  pub pending : LeadTo world.tables member.view.pending middle member.view.tables
+  pub flight : IsApplied (catalog_at world.tables world.log member.position.version) (flown member.position.flight)
+      (tables_at world.log member.position.version) middle
+  pub pending : LeadTo (catalog_at world.tables world.log member.position.version) member.view.pending middle member.view.tables
 
 -- nothing is under way, and nothing pending
 abbrev pub IsAtRest : Member → Type 0
 IsAtRest member = (member.position.flight ≡ None) × (member.position.pending ≡ 0)
 
--- the same rows at each place of the tables
+-- the same rows at each place of the tables that the catalog has at the version of the first
 abbrev pub HaveSameRows : World → Member → Member → Type 0
 HaveSameRows world one other =
-    (table : TableDef) (key : List ℕ) → Contains world.tables table → one.view.tables table.name key ≡ other.view.tables table.name key
+    (table : TableDef) (key : List ℕ) → Contains (catalog_at world.tables world.log one.position.version) table
+    → one.view.tables table.name key ≡ other.view.tables table.name key
 
 pub record Headline (world : World) : Type 0 where
   -- each replica's tables are the hub's at its version, with what is under way and what is pending on top

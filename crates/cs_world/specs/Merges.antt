@@ -8,7 +8,7 @@ use Rattle.cs_change.specs.Net.{net}
 use Rattle.cs_conflict.specs.declared.conflict.Resolution.{Resolution}
 use Rattle.cs_conflict.specs.declared.wish.Wish.{Wish}
 use Rattle.cs_store.specs.log.Entry.{entry_changes}
-use Rattle.cs_store.specs.log.Log.{tables_at}
+use Rattle.cs_store.specs.log.Log.{catalog_at, tables_at}
 use Rattle.cs_store.specs.declared.log.entry.LogEntry.{LogEntry}
 use Rattle.cs_hub.specs.catching.Told.{AreOthersAsOne}
 use Rattle.cs_replica.specs.Same.{IsSameMember, IsSameView}
@@ -39,13 +39,13 @@ pub record IsMerged (world : World) (from to : ℕ) (changes : List TableChanges
   pub each : (name key : List ℕ) → (answer : Resolution)
       × (after.tables name key ≡ merge answer (tables_at world.log from name key) (before.tables name key) (tables_at world.log to name key))
   pub by_wishes : TakeAll IsWished (tables_at world.log from) before.tables (tables_at world.log to) after.tables
-      (tasks world.tables (groups_of changes)) wishes unused
+      (tasks (catalog_at world.tables world.log from) (groups_of changes)) wishes unused
   pub others : (name key : List ℕ) → change_of name key changes ≡ None → after.tables name key ≡ before.tables name key
 
 -- what is pending is the net change from the log's tables at a version to the own rows
 abbrev pub IsPendingFrom : World → ℕ → View → Type 0
 IsPendingFrom world version view =
-    (table : TableDef) (key : List ℕ) → Contains world.tables table
+    (table : TableDef) (key : List ℕ) → Contains (catalog_at world.tables world.log version) table
     → action_any (view.pending table.name key) ≡ net table.key_marks (tables_at world.log version table.name key) (view.tables table.name key)
 
 -- ---- one by one

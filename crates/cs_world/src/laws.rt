@@ -28,7 +28,10 @@ pub fn steps_are_sound()
     cs_pending::position::laws::last_number();
     cs_store::log::laws::appended_is_log();
     cs_store::log::laws::longer_log();
+    cs_store::log::laws::front_is_log();
     cs_store::log::laws::one_body();
+    cs_store::log::laws::none_widens();
+    cs_store::log::laws::catalog_stays();
     cs_wire::laws::one_request();
     cs_wire::laws::one_told_answer();
     cs_wire::laws::told_are_read();
@@ -49,6 +52,7 @@ pub fn sound_has_headline()
     ensures { SoundHasHeadline }
 {
     cs_change::laws::net_takes();
+    cs_store::log::laws::catalog_stays();
     cs_normal::laws::one_key_stands();
     cs_replica::laws::flight_fits();
     cs_replica::laws::equal_at_rest();
@@ -69,6 +73,8 @@ pub fn answers_fit()
     cs_normal::laws::normal_is_taken();
     cs_normalising::laws::normal_again();
     cs_store::log::laws::appended_is_log();
+    cs_store::log::laws::none_widens();
+    cs_store::log::laws::catalog_stays();
     cs_store::log::laws::most_bytes();
     cs_wire::laws::one_request();
     cs_wire::laws::one_told_answer();
@@ -84,7 +90,10 @@ pub fn pulls_merge()
 {
     cs_normal::laws::normal_is_taken();
     cs_normalising::laws::normal_again();
+    cs_store::log::laws::front_is_log();
     cs_store::log::laws::one_body();
+    cs_store::log::laws::none_widens();
+    cs_store::log::laws::catalog_stays();
     cs_pending::laws::one_view();
     cs_exchange::taking::laws::one_contents();
     cs_exchange::pulling::laws::one_read();
@@ -171,6 +180,7 @@ pub fn deliver_has_step()
     cs_conflict::laws::guarded_is_lawful();
     cs_hub::catching::laws::catch_has_answer();
     cs_hub::judgement::laws::push_has_answer();
+    cs_store::log::laws::catalog_stays();
     cs_normal::laws::normal_is_taken();
     cs_normalising::laws::normal_again();
     let wishes = Wishes::new(&[]);

@@ -18,6 +18,7 @@ use Rattle.cs_pending.specs.position.Shows.{ShowsAt, base, changes_at, flown}
 use Rattle.cs_pending.specs.declared.position.position.Position.{Position}
 use Rattle.cs_exchange.specs.pulling.Laws.{PulledLeads}
 use Rattle.cs_exchange.specs.pulling.Pulls.{IsOwn}
+use Rattle.cs_exchange.proofs.PullingLemmas.Bodies.{own_flies}
 
 -- where nothing is under way, the log's rows are those before what is pending
 leads_on : (tables : List TableDef) (entry : List TableChanges) (log : State) (after : View) → IsApplied tables entry log (middle after) → IsApplied tables entry log (base None after)
@@ -28,14 +29,15 @@ pub own_leads : NetIsApplied → (tables : List TableDef) (contents : Contents) 
     → IsApplied tables (entry_changes entry) (base position.flight view) (middle view)
 own_leads law tables contents position entry view are shows own =
     let changes = entry_changes entry in
-    let sound = subst (λ (f : Option (List TableChanges)). IsSoundOf tables (changes_at (flown f)) (middle view)) own.under_way shows.under_way.sound in
-    let fits = subst (λ (f : Option (List TableChanges)). FitsCatalog tables (flown f)) own.under_way shows.under_way.fits in
-    subst (λ (f : Option (List TableChanges)). IsApplied tables changes (base f view) (middle view)) (sym own.under_way)
+    let flies = own_flies position entry own in
+    let sound = subst (λ (f : Option (List TableChanges)). IsSoundOf tables (changes_at (flown f)) (middle view)) flies shows.under_way.sound in
+    let fits = subst (λ (f : Option (List TableChanges)). FitsCatalog tables (flown f)) flies shows.under_way.fits in
+    subst (λ (f : Option (List TableChanges)). IsApplied tables changes (base f view) (middle view)) (sym flies)
     (law tables changes (before_changes (changes_at changes) (middle view)) (middle view) are sound.before_state sound.after_state (fits, sound.net_of))
 
 pub pulled_leads : NetIsApplied → {P : Type 0} (picks : P → Clash → Wish → P → Type 0) → PulledLeads picks
 pulled_leads law picks tables contents position entry before after p q are shows (room, inl (own, same, asked)) =
     subst (λ (v : View). IsApplied tables (entry_changes entry) (base position.flight before) (base None v)) (sym same)
     (leads_on tables (entry_changes entry) (base position.flight before) before (own_leads law tables contents position entry before are shows own))
-pulled_leads law picks tables contents position entry before after p q are shows (room, inr (other, taken)) =
+pulled_leads law picks tables contents position entry before after p q are shows (room, inr (other, plain, taken)) =
     leads_on tables (entry_changes entry) (base position.flight before) after taken.applied

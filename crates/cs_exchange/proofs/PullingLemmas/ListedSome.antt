@@ -10,9 +10,9 @@ use Rattle.cs_value.specs.Catalog.{AreTables}
 use Rattle.cs_value.specs.Decided.{OrNot}
 use Rattle.cs_value.specs.declared.catalog.TableDef.{TableDef}
 use Rattle.cs_normal.specs.declared.normal.TableChanges.{TableChanges}
-use Rattle.cs_store.specs.log.Entry.{entry_changes, kind_of}
+use Rattle.cs_store.specs.log.Entry.{WidensNone, entry_changes, kind_of}
 use Rattle.cs_store.specs.declared.log.body.Body.{Body}
-use Rattle.cs_store.specs.declared.log.body.Body.TheVariants.{Changes}
+use Rattle.cs_store.specs.declared.log.body.Body.TheVariants.{Changes, Widen}
 use Rattle.cs_store.specs.declared.log.entry.LogEntry.{LogEntry}
 use Rattle.cs_store.specs.Contents.{Contents}
 use Rattle.cs_conflict.specs.declared.clash.Clash.{Clash}
@@ -37,8 +37,9 @@ use Rattle.cs_exchange.proofs.PullingLemmas.PulledSome.{same_number}
 
 -- ---- one entry is read, or can't be
 
-kind_is : (body : Body) → kind_of body ≡ 0
-kind_is (Changes changes) = refl
+kind_is : (body : Body) → WidensNone body → kind_of body ≡ 0
+kind_is (Changes changes) plain = refl
+kind_is (Widen table width) plain = absurd plain
 
 module _ (tables : List TableDef) (told : ToldEntry) where
   abbrev Reads : Type 0
@@ -47,9 +48,9 @@ module _ (tables : List TableDef) (told : ToldEntry) where
   by_kind : (changes : List TableChanges) → IsFormOf tables told.body changes → OrNot (told.kind ≡ 0) → Reads
   by_kind changes form (inl kind) = inl (
     record { origin = told.origin; number = told.number; body = Changes changes },
-    record { kind = kind; origin = refl; number = refl; read = form },
+    record { kind = kind; origin = refl; number = refl; plain = tt; read = form },
   )
-  by_kind changes form (inr other) = inr (λ entry read. other (read.kind ∙ kind_is entry.body))
+  by_kind changes form (inr other) = inr (λ entry read. other (read.kind ∙ kind_is entry.body read.plain))
 
   by_form : ((changes : List TableChanges) × IsFormOf tables told.body changes) ⊎ ((changes : List TableChanges) → IsFormOf tables told.body changes → ⊥) → Reads
   by_form (inl (changes, form)) = by_kind changes form (same_number told.kind 0)

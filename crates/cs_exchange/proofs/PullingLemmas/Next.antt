@@ -5,7 +5,8 @@ use Rattle.std.specs.Result.{result_err}
 use Rattle.std.proofs.lemmas.Option.{same_Some}
 use Rattle.cs_value.specs.declared.catalog.TableDef.{TableDef}
 use Rattle.cs_normal.specs.declared.normal.TableChanges.{TableChanges}
-use Rattle.cs_store.specs.log.Entry.{entry_changes}
+use Rattle.cs_store.specs.log.Entry.{changes_of_body}
+use Rattle.cs_store.specs.declared.log.body.Body.TheVariants.{Changes}
 use Rattle.cs_store.specs.declared.log.entry.LogEntry.{LogEntry}
 use Rattle.cs_store.specs.Contents.{Contents}
 use Rattle.cs_store.specs.declared.store.RowStore.{Ghosts}
@@ -20,6 +21,7 @@ use Rattle.cs_exchange.specs.declared.taking.fault.TakeFault.TheVariants as take
 use Rattle.cs_exchange.specs.pulling.Pulls.{IsOwn, IsPulledIn}
 use Rattle.cs_exchange.specs.declared.pulling.fault.PullFault.{PullFault}
 use Rattle.cs_exchange.specs.declared.pulling.fault.PullFault.TheVariants.{Memory, BadEntry, Stopped, Device}
+use Rattle.cs_exchange.proofs.PullingLemmas.Bodies.{of_changes}
 
 -- a fault that is told as a failed device is one
 pub was_device : (fault : TakeFault) (told : PullFault) → (fault ≡ take.Memory → told ≡ Memory) → (fault ≡ take.BadEntry → told ≡ BadEntry) → ((conflict : Conflict) → fault ≡ take.Stopped conflict → told ≡ Stopped conflict)
@@ -31,11 +33,11 @@ was_device take.Device told memory bad stopped is = refl
 
 module _ {P S : Type 0} (picks : P → Clash → Wish → P → Type 0) (g : Ghosts S)
     (tables : List TableDef) (position : Position) (entry : LogEntry) (changes : List TableChanges) (p q : P) (readable : Type 0) (old new : S)
-    (same : changes ≡ entry_changes entry) (room : position.version < 2 ^ 64 - 1) (others : IsOwn position entry → ⊥) where
+    (is_body : entry.body ≡ Changes changes) (room : position.version < 2 ^ 64 - 1) (others : IsOwn position entry → ⊥) where
   pulled : (left : Contents) → IsTakenIn picks tables position changes p q (g.contents old) left → IsPulledIn picks tables position entry p q (g.contents old) left
   pulled left is before shows =
-      let after = (subst (λ (c : List TableChanges). IsTakenIn picks tables position c p q (g.contents old) left) same is) before shows in
-      (after.0, after.1, (room, inr (others, after.2)))
+      let after = (subst (λ (c : List TableChanges). IsTakenIn picks tables position c p q (g.contents old) left) (sym (ap changes_of_body is_body)) is) before shows in
+      (after.0, after.1, (room, inr (others, of_changes entry.body changes is_body, after.2)))
 
   stopped : (left : Contents) → g.may_leave old left ⊎ IsTakenIn picks tables position changes p q (g.contents old) left → g.may_leave old left ⊎ IsPulledIn picks tables position entry p q (g.contents old) left
   stopped left (inl before) = inl before

@@ -1,10 +1,13 @@
 -- An entry is pulled once, or has one fault.
-use Rattle.std.proofs.Common.{◌≡◌, ◌<◌, ◌+◌, ℕ, List, refl, sym, ap, ◌∙◌, arith, inl, inr}
+use Rattle.std.proofs.Common.{◌≡◌, ◌<◌, ◌+◌, ℕ, List, Option, refl, sym, ap, ◌∙◌, arith, inl, inr}
 use Rattle.std.specs.FinMap.{len}
 use Rattle.cs_value.specs.Catalog.{AreTables}
 use Rattle.cs_value.specs.declared.catalog.TableDef.{TableDef}
 use Rattle.cs_normal.specs.Normal.{IsNormalChangeset}
-use Rattle.cs_store.specs.log.Entry.{entry_changes}
+use Rattle.cs_normal.specs.declared.normal.TableChanges.{TableChanges}
+use Rattle.cs_store.specs.log.Entry.{WidensNone, changes_of_body, entry_changes}
+use Rattle.cs_store.specs.declared.log.body.Body.{Body}
+use Rattle.cs_store.specs.declared.log.body.Body.TheVariants.{Changes, Widen}
 use Rattle.cs_store.specs.declared.log.entry.LogEntry.{LogEntry}
 use Rattle.cs_store.specs.Contents.{Contents}
 use Rattle.cs_conflict.specs.declared.clash.Clash.{Clash}
@@ -15,11 +18,12 @@ use Rattle.cs_pending.specs.View.{View}
 use Rattle.cs_pending.specs.position.Shows.{ShowsAt}
 use Rattle.cs_pending.specs.declared.position.position.Position.{Position}
 use Rattle.cs_exchange.specs.taking.Laws.{BadIsNeither, NoStopWhereTaken, OneContents, OneStopTaking, OneTaken, OneTakenIn, PicksOnce}
-use Rattle.cs_exchange.specs.taking.Takes.{IsTaken, IsTakenIn, taken}
+use Rattle.cs_exchange.specs.taking.Takes.{IsTaken, IsTakenIn, StopsAt, StopsTaking, taken}
 use Rattle.cs_exchange.specs.pulling.Laws.{IsOfEntry, NoPullFaultWherePulled, OnePull, OnePullFault, OnePullIn}
 use Rattle.cs_exchange.specs.pulling.Pulls.{IsBad, IsOwn, IsPullFault, IsPulledIn, PullsOne, StopsPull}
 use Rattle.cs_exchange.specs.declared.pulling.fault.PullFault.{PullFault}
 use Rattle.cs_exchange.specs.declared.pulling.fault.PullFault.TheVariants.{Memory, Behind, Gap, BadEntry, Stopped, Device}
+use Rattle.cs_exchange.proofs.PullingLemmas.Bodies.{may_widen}
 
 -- ---- pulled once
 
@@ -31,16 +35,16 @@ module _ {P : Type 0} (picks : P → Clash → Wish → P → Type 0) where
         λ table key inside. ap (λ (v : View). v.pending table.name key) alike ∙ views.1 table key inside ∙ sym (ap (λ (v : View). v.pending table.name key) same),
         asked ∙ sym still,
       )
-  one_pull one_view law tables contents position entry before seen some other p q r are normal once b s (room, inl (own, same, asked)) (more, inr (others, takes)) = absurd (others own)
-  one_pull one_view law tables contents position entry before seen some other p q r are normal once b s (room, inr (others, takes)) (more, inl (own, same, asked)) = absurd (others own)
-  one_pull one_view law tables contents position entry before seen some other p q r are normal once b s (room, inr (others, takes)) (more, inr (away, took)) =
+  one_pull one_view law tables contents position entry before seen some other p q r are normal once b s (room, inl (own, same, asked)) (more, inr (others, plain, takes)) = absurd (others own)
+  one_pull one_view law tables contents position entry before seen some other p q r are normal once b s (room, inr (others, plain, takes)) (more, inl (own, same, asked)) = absurd (others own)
+  one_pull one_view law tables contents position entry before seen some other p q r are normal once b s (room, inr (others, plain, takes)) (more, inr (away, still, took)) =
       law tables contents position (entry_changes entry) before seen some other p q r are normal once b s takes took
 
   -- another's entry that is pulled is taken
   others_taken : (tables : List TableDef) (position : Position) (entry : LogEntry) (before after : View) (p q : P) → (IsOwn position entry → ⊥) → PullsOne picks tables position entry before p after q
       → IsTaken picks tables position.flight (entry_changes entry) before after p q
   others_taken tables position entry before after p q others (room, inl (own, same, asked)) = absurd (others own)
-  others_taken tables position entry before after p q others (room, inr (away, takes)) = takes
+  others_taken tables position entry before after p q others (room, inr (away, plain, takes)) = takes
 
   taken_in : (tables : List TableDef) (position : Position) (entry : LogEntry) (old new : Contents) (p q : P) → (IsOwn position entry → ⊥) → IsPulledIn picks tables position entry p q old new
       → IsTakenIn picks tables position (entry_changes entry) p q old new
@@ -55,9 +59,9 @@ module _ {P : Type 0} (picks : P → Clash → Wish → P → Type 0) where
       contents tables (taken position 0) some other after end a e (λ name key. ap (λ (v : View). v.tables name key) (alike ∙ sym same)) (λ table key inside. ap (λ (v : View). v.pending table.name key) (alike ∙ sym same)),
       asked ∙ sym still,
     )
-    one_left after end a e (room, inl (own, same, asked)) (more, inr (others, takes)) = absurd (others own)
-    one_left after end a e (room, inr (others, takes)) (more, inl (own, same, asked)) = absurd (others own)
-    one_left after end a e (room, inr (others, takes)) (more, inr (away, took)) =
+    one_left after end a e (room, inl (own, same, asked)) (more, inr (others, plain, takes)) = absurd (others own)
+    one_left after end a e (room, inr (others, plain, takes)) (more, inl (own, same, asked)) = absurd (others own)
+    one_left after end a e (room, inr (others, plain, takes)) (more, inr (away, still, took)) =
         law tables position (position.version + 1) (entry_changes entry) old some other p q r are normal once (before, shows) (taken_in tables position entry old some p q others s) (taken_in tables position entry old other p r others o)
 
   pub one_pull_in : OneTakenIn picks → OneContents → OnePullIn picks
@@ -68,11 +72,22 @@ module _ {P : Type 0} (picks : P → Clash → Wish → P → Type 0) where
 
 -- ---- one fault
 
+-- the picker stops at a change, so at no entry that widens a table
+plain_stop : {P : Type 0} (picks : P → Clash → Wish → P → Type 0) (tables : List TableDef) (flight : Option (List TableChanges)) (body : Body) (view : View) (p : P) (conflict : Conflict) (q : P)
+    → StopsTaking picks tables flight (changes_of_body body) view p conflict q → WidensNone body
+unfolding StopsAt
+plain_stop picks tables flight (Changes changes) view p conflict q stops = tt
+plain_stop picks tables flight (Widen table width) view p conflict q stops = stops.stops
+
+stops_plain : {P : Type 0} (picks : P → Clash → Wish → P → Type 0) (tables : List TableDef) (flight : Option (List TableChanges)) (entry : LogEntry) (view : View) (p : P) (conflict : Conflict) (q : P)
+    → StopsTaking picks tables flight (entry_changes entry) view p conflict q → WidensNone entry.body
+stops_plain picks tables flight entry view p conflict q stops = plain_stop picks tables flight entry.body view p conflict q stops
+
 -- a bad entry isn't stopped at
 pub bad_or_stop : {P : Type 0} (picks : P → Clash → Wish → P → Type 0) (tables : List TableDef) (position : Position) (entry : LogEntry) (view : View) (p : P) (conflict : Conflict) (q : P)
     → IsBad tables position entry view → StopsPull picks tables position entry view p conflict q → ⊥
 bad_or_stop picks tables position entry view p conflict q (inl last) stops = let room = stops.room in absurd (omega (arith, last, room))
-bad_or_stop picks tables position entry view p conflict q (inr (others, undefined)) stops = undefined stops.stops.defined
+bad_or_stop picks tables position entry view p conflict q (inr (others, undefined)) stops = undefined (stops.stops.defined, may_widen tables entry.body (stops_plain picks tables position.flight entry view p conflict q stops.stops))
 
 module _ {P : Type 0} (picks : P → Clash → Wish → P → Type 0) (law : OneStopTaking picks) (tables : List TableDef) (position : Position) (index : ℕ) (entry : LogEntry) (view : View) (p q r : P) (once : PicksOnce picks) where
   one_behind : (other : PullFault) → IsOfEntry other → (index < position.version) × (q ≡ p) → IsPullFault picks tables position index entry view p r other → (Behind ≡ other) × (q ≡ r)
@@ -123,11 +138,11 @@ module _ {P : Type 0} (picks : P → Clash → Wish → P → Type 0) (bad : Bad
   pub bad_or_pull : IsBad tables position entry before → PullsOne picks tables position entry before p after q → ⊥
   bad_or_pull (inl last) (room, how) = absurd (omega (arith, last, room))
   bad_or_pull (inr (others, undefined)) (room, inl (own, same, asked)) = others own
-  bad_or_pull (inr (others, undefined)) (room, inr (away, takes)) = (bad tables position.flight (entry_changes entry) before p q undefined).0 after takes
+  bad_or_pull (inr (others, undefined)) (room, inr (away, plain, takes)) = (bad tables position.flight (entry_changes entry) before p q (λ defined. undefined (defined, may_widen tables entry.body plain))).0 after takes
 
   pub stop_or_pull : (conflict : Conflict) → PicksOnce picks → StopsPull picks tables position entry before p conflict r → PullsOne picks tables position entry before p after q → ⊥
   stop_or_pull conflict once stops (room, inl (own, same, asked)) = stops.others own
-  stop_or_pull conflict once stops (room, inr (away, takes)) = stop tables position.flight (entry_changes entry) before after p q r conflict once takes stops.stops
+  stop_or_pull conflict once stops (room, inr (away, plain, takes)) = stop tables position.flight (entry_changes entry) before after p q r conflict once takes stops.stops
 
 pub no_fault : {P : Type 0} (picks : P → Clash → Wish → P → Type 0) → BadIsNeither picks → NoStopWhereTaken picks → NoPullFaultWherePulled picks
 no_fault picks bad stop tables position entry before after Memory p q r once of pulls wrong = absurd (of.0 refl)

@@ -10,10 +10,11 @@ use Rattle.cs_value.specs.declared.catalog.TableDef.{TableDef}
 use Rattle.cs_normal.specs.Normal.{IsNormalChangeset}
 use Rattle.cs_normal.specs.State.{DefinedIsApplied, IsDefinedOn, NetIsApplied}
 use Rattle.cs_normal.specs.declared.normal.TableChanges.{TableChanges}
-use Rattle.cs_store.specs.log.Entry.{changes_of_body, entry_changes}
-use Rattle.cs_store.specs.log.Laws.{DefinedOrNot, OneBody}
+use Rattle.cs_store.specs.log.Entry.{WidensNone, changes_of_body, entry_changes}
+use Rattle.cs_store.specs.log.Laws.{DefinedOrNot, NoneWidens, OneBody}
 use Rattle.cs_store.specs.log.Stored.{AreChangesOf, stored_body}
-use Rattle.cs_store.specs.declared.log.body.Body.TheVariants.{Changes}
+use Rattle.cs_store.specs.declared.log.body.Body.{Body}
+use Rattle.cs_store.specs.declared.log.body.Body.TheVariants.{Changes, Widen}
 use Rattle.cs_store.specs.declared.log.entry.LogEntry.{LogEntry}
 use Rattle.cs_store.specs.Contents.{Contents}
 use Rattle.cs_conflict.specs.declared.clash.Clash.{Clash}
@@ -28,24 +29,29 @@ use Rattle.cs_exchange.specs.pulling.Laws.{IsOfEntry, PulledOrRefused}
 use Rattle.cs_exchange.specs.pulling.Pulls.{IsOwn, IsPullFault, IsPulledIn}
 use Rattle.cs_exchange.specs.declared.pulling.fault.PullFault.{PullFault}
 use Rattle.cs_exchange.specs.declared.pulling.fault.PullFault.TheVariants.{Behind, Gap, BadEntry, Stopped}
+use Rattle.cs_exchange.proofs.PullingLemmas.Bodies.{is_changes, own_flies, own_plain}
 use Rattle.cs_exchange.proofs.PullingLemmas.Leading.{own_leads}
 
--- ---- whether it is the push that is under way
+-- ---- whether it widens a table, and whether it is the push that is under way
+
+plain_or_not : (body : Body) → OrNot (WidensNone body)
+plain_or_not (Changes changes) = inl tt
+plain_or_not (Widen table width) = inr (λ plain. plain)
 
 pub same_number : (a b : ℕ) → OrNot (a ≡ b)
 same_number a b = elim (eqb_tells a b) [ inl (e, is) ↦ inl is | inr (e, ne) ↦ inr ne ]
 
-module _ (one_body : OneBody) (tables : List TableDef) (are : AreTables tables) (position : Position) (entry : LogEntry) (of : AreChangesOf tables (entry_changes entry)) where
+module _ (one_body : OneBody) (tables : List TableDef) (are : AreTables tables) (position : Position) (entry : LogEntry) (of : AreChangesOf tables (entry_changes entry)) (plain : WidensNone entry.body) where
   own_with : (changes : List TableChanges) → position.flight ≡ Some changes → changes ≡ entry_changes entry → OrNot (entry.origin ≡ position.id) → OrNot (entry.number ≡ position.number) → OrNot (IsOwn position entry)
-  own_with changes is same (inl origin) (inl number) = inl (record { under_way = is ∙ ap (λ (c : List TableChanges). Some c) same; from_here = origin; last = number })
+  own_with changes is same (inl origin) (inl number) = inl (record { changes = entry_changes entry; body = is_changes entry.body plain; under_way = is ∙ ap (λ (c : List TableChanges). Some c) same; from_here = origin; last = number })
   own_with changes is same (inl origin) (inr other) = inr (λ own. other own.last)
   own_with changes is same (inr other) number = inr (λ own. other own.from_here)
 
   by_changes : (changes : List TableChanges) → position.flight ≡ Some changes → OrNot (stored_body (Changes changes) ≡ stored_body (Changes (entry_changes entry))) → AreChangesOf tables changes → OrNot (IsOwn position entry)
   by_changes changes is (inl same) fits =
-      own_with changes is (ap changes_of_body (one_body tables (Changes changes) (Changes (entry_changes entry)) are fits of same)) (same_number entry.origin position.id) (same_number entry.number position.number)
+      own_with changes is (ap changes_of_body (one_body tables (Changes changes) (Changes (entry_changes entry)) are fits of tt tt same)) (same_number entry.origin position.id) (same_number entry.number position.number)
   by_changes changes is (inr other) fits =
-      inr (λ own. let same : changes ≡ entry_changes entry = (let e = sym is ∙ own.under_way in cc) in other (ap (λ (c : List TableChanges). stored_body (Changes c)) same))
+      inr (λ own. let same : changes ≡ entry_changes entry = (let e = sym is ∙ own_flies position entry own in cc) in other (ap (λ (c : List TableChanges). stored_body (Changes c)) same))
 
   by_flight : (flight : Option (List TableChanges)) → position.flight ≡ flight → AreChangesOf tables (flown flight) → OrNot (IsOwn position entry)
   by_flight None is fits = inr (λ own. let e = sym is ∙ own.under_way in cc)
@@ -53,7 +59,7 @@ module _ (one_body : OneBody) (tables : List TableDef) (are : AreTables tables) 
 
 -- ---- pulled, or refused
 
-module _ (defined_or_not : DefinedOrNot) (one_body : OneBody) (net_is_applied : NetIsApplied) (defined_is_applied : DefinedIsApplied) (next : NextIsShown) {P : Type 0} (picks : P → Clash → Wish → P → Type 0) (is_ready : P → Type 0)
+module _ (defined_or_not : DefinedOrNot) (one_body : OneBody) (none_widens : NoneWidens) (net_is_applied : NetIsApplied) (defined_is_applied : DefinedIsApplied) (next : NextIsShown) {P : Type 0} (picks : P → Clash → Wish → P → Type 0) (is_ready : P → Type 0)
     (taken_or_stopped : TakenInOrStopped picks is_ready) (tables : List TableDef) (old : Contents) (position : Position) (index : ℕ) (entry : LogEntry) (before : View) (p : P) (are : AreTables tables) (normal : IsNormalChangeset (entry_changes entry))
     (ranged : position.version < 2 ^ 64) (shows : ShowsAt tables old position before) (answers : AnswersLawfully picks is_ready) (ready : is_ready p) where
   abbrev Either : Type 0
@@ -77,21 +83,28 @@ module _ (defined_or_not : DefinedOrNot) (one_body : OneBody) (net_is_applied : 
         let left = next tables old position (position.version + 1) in
         inl (left.0, p, same, λ view seen. (view, counted left.0 view (left.1 view seen), (room, inl (own, refl, refl))), ready)
 
-    taken_there : (IsOwn position entry → ⊥)
+    taken_there : WidensNone entry.body → (IsOwn position entry → ⊥)
         → ((new : Contents) × (q : P) × IsTakenIn picks tables position changes p q old new × is_ready q) ⊎ ((conflict : Conflict) × (q : P) × StopsTaking picks tables position.flight changes before p conflict q) → Either
-    taken_there others (inl (new, q, is, again)) = inl (new, q, same, λ view seen. (let one = is view seen in (one.0, one.1, (room, inr (others, one.2)))), again)
-    taken_there others (inr (conflict, q, stops)) = inr (Stopped conflict, q, (λ e. cc, λ e. cc), (same, record { room = room; others = others; stops = stops }))
+    taken_there plain others (inl (new, q, is, again)) = inl (new, q, same, λ view seen. (let one = is view seen in (one.0, one.1, (room, inr (others, plain, one.2)))), again)
+    taken_there plain others (inr (conflict, q, stops)) = inr (Stopped conflict, q, (λ e. cc, λ e. cc), (same, record { room = room; others = others; stops = stops }))
 
-    by_owner : IsDefinedOn tables changes (base position.flight before) → OrNot (IsOwn position entry) → Either
-    by_owner defined (inl own) = confirmed own
-    by_owner defined (inr others) = taken_there others (taken_or_stopped tables old position (position.version + 1) changes before p are normal shows defined answers ready)
+    by_owner : WidensNone entry.body → IsDefinedOn tables changes (base position.flight before) → OrNot (IsOwn position entry) → Either
+    by_owner plain defined (inl own) = confirmed own
+    by_owner plain defined (inr others) = taken_there plain others (taken_or_stopped tables old position (position.version + 1) changes before p are normal shows defined answers ready)
 
-    by_defined : OrNot (IsDefinedOn tables changes (base position.flight before)) → Either
-    by_defined (inl defined) = by_owner defined (by_flight one_body tables are position entry (normal, defined.0) position.flight refl (shows.under_way.normal, shows.under_way.fits))
-    by_defined (inr undefined) = inr (BadEntry, p, (λ e. cc, λ e. cc), (same, inr (λ own. undefined (own_defined own), undefined), refl))
+    by_defined : WidensNone entry.body → OrNot (IsDefinedOn tables changes (base position.flight before)) → Either
+    by_defined plain (inl defined) =
+        by_owner plain defined (by_flight one_body tables are position entry (normal, defined.0) plain position.flight refl (shows.under_way.normal, shows.under_way.fits))
+    by_defined plain (inr undefined) = inr (BadEntry, p, (λ e. cc, λ e. cc), (same, inr (λ own. undefined (own_defined own), λ both. undefined both.0), refl))
+
+    -- one that widens a table is refused
+    by_body : OrNot (WidensNone entry.body) → Either
+    by_body (inl plain) = by_defined plain (defined_or_not tables changes (base position.flight before))
+    by_body (inr widens) =
+        inr (BadEntry, p, (λ e. cc, λ e. cc), (same, inr (λ own. widens (own_plain position entry own), λ both. widens (none_widens tables entry.body both.1)), refl))
 
   by_room : index ≡ position.version → (position.version < 2 ^ 64 - 1) ⊎ (2 ^ 64 - 1 ≤ position.version) → Either
-  by_room same (inl room) = by_defined same room (defined_or_not tables changes (base position.flight before))
+  by_room same (inl room) = by_body same room (plain_or_not entry.body)
   by_room same (inr past) =
       let last : position.version ≡ 2 ^ 64 - 1 = omega (arith, past, ranged) in
       inr (BadEntry, p, (λ e. cc, λ e. cc), (same, inl last, refl))
@@ -107,5 +120,5 @@ module _ (defined_or_not : DefinedOrNot) (one_body : OneBody) (net_is_applied : 
   pub either : Either
   either = by_index (cases_lt index position.version)
 
-pub pulled_or_refused : DefinedOrNot → OneBody → NetIsApplied → DefinedIsApplied → NextIsShown → {P : Type 0} (picks : P → Clash → Wish → P → Type 0) (is_ready : P → Type 0) → TakenInOrStopped picks is_ready → PulledOrRefused picks is_ready
+pub pulled_or_refused : DefinedOrNot → OneBody → NoneWidens → NetIsApplied → DefinedIsApplied → NextIsShown → {P : Type 0} (picks : P → Clash → Wish → P → Type 0) (is_ready : P → Type 0) → TakenInOrStopped picks is_ready → PulledOrRefused picks is_ready
 pulled_or_refused = either

@@ -12,25 +12,24 @@ use Rattle.cs_normalising.specs.NormalFormOf.{IsNormalFormOf, IsUnfit}
 use Rattle.cs_normal.specs.declared.normal.TableChanges.{TableChanges}
 use Rattle.cs_normalising.specs.declared.unfit.Unfit.{Unfit}
 use Rattle.cs_normalising.specs.declared.unfit.Unfit.TheVariants.{Memory}
-use Rattle.cs_store.specs.log.Entry.{changes_of_body, entry_changes}
+use Rattle.cs_store.specs.log.Entry.{WidensNone, entry_changes}
 use Rattle.cs_store.specs.declared.log.body.Body.{Body}
 use Rattle.cs_store.specs.declared.log.body.Body.TheVariants.{Changes}
 use Rattle.cs_store.specs.declared.log.entry.LogEntry.{LogEntry}
 use Rattle.cs_exchange.specs.pulling.Laws.{FormOrNot, OneForm, OneRead}
 use Rattle.cs_exchange.specs.pulling.Told.{IsFormOf}
+use Rattle.cs_exchange.proofs.PullingLemmas.Bodies.{is_changes}
 
 -- the entry of these
 entry_with : ℕ → ℕ → Body → LogEntry
 entry_with origin number body = record { origin = origin; number = number; body = body }
 
-one_body : (some other : Body) → changes_of_body some ≡ changes_of_body other → some ≡ other
-one_body (Changes some) (Changes other) same = ap (λ (c : List TableChanges). Changes c) same
-
-pub one_entry : (some other : LogEntry) → some.origin ≡ other.origin → some.number ≡ other.number → entry_changes some ≡ entry_changes other → some ≡ other
+pub one_entry : (some other : LogEntry) → some.origin ≡ other.origin → some.number ≡ other.number → WidensNone some.body → WidensNone other.body → entry_changes some ≡ entry_changes other → some ≡ other
 unfolding entry_with
-one_entry some other origin number changes =
+one_entry some other origin number plain also changes =
+    let bodies : some.body ≡ other.body = is_changes some.body plain ∙ ap (λ (c : List TableChanges). Changes c) changes ∙ sym (is_changes other.body also) in
     ap₂ (λ (o n : ℕ). entry_with o n some.body) origin number
-    ∙ ap (λ (b : Body). entry_with other.origin other.number b) (one_body some.body other.body changes)
+    ∙ ap (λ (b : Body). entry_with other.origin other.number b) bodies
 
 -- bytes spell one changeset, which has one normal form
 pub one_form : OneChangeset → OneNormalForm → OneForm
@@ -40,7 +39,7 @@ one_form one form tables bytes some other are is so =
 
 pub one_read : OneForm → OneRead
 one_read law tables told some other are is so =
-    one_entry some other (sym is.origin ∙ so.origin) (sym is.number ∙ so.number) (law tables told.body (entry_changes some) (entry_changes other) are is.read so.read)
+    one_entry some other (sym is.origin ∙ so.origin) (sym is.number ∙ so.number) is.plain so.plain (law tables told.body (entry_changes some) (entry_changes other) are is.read so.read)
 
 -- a changeset that is refused has no normal form
 pub not_form : NoFaultWhereFit → OneChangeset → (tables : List TableDef) → AreTables tables → (bytes : List ℕ) (groups : List Group) → FitsChangeset groups → bytes ≡ changeset_spelling groups

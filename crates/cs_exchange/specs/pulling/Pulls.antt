@@ -4,7 +4,9 @@ use Rattle.std.specs.Prelude.{◌≡◌, ◌⊎◌, ◌<◌, ◌-◌, ◌^◌, �
 use Rattle.std.specs.FinMap.{len}
 use Rattle.cs_value.specs.declared.catalog.TableDef.{TableDef}
 use Rattle.cs_normal.specs.State.{IsDefinedOn}
-use Rattle.cs_store.specs.log.Entry.{entry_changes}
+use Rattle.cs_normal.specs.declared.normal.TableChanges.{TableChanges}
+use Rattle.cs_store.specs.log.Entry.{MayWiden, WidensNone, entry_changes}
+use Rattle.cs_store.specs.declared.log.body.Body.TheVariants.{Changes}
 use Rattle.cs_store.specs.declared.log.entry.LogEntry.{LogEntry}
 use Rattle.cs_store.specs.Contents.{Contents}
 use Rattle.cs_conflict.specs.declared.clash.Clash.{Clash}
@@ -16,26 +18,29 @@ use Rattle.cs_exchange.specs.taking.Takes.{IsTaken, StopsTaking, taken}
 use Rattle.cs_exchange.specs.declared.pulling.fault.PullFault.{PullFault}
 use Rattle.cs_exchange.specs.declared.pulling.fault.PullFault.TheVariants.{Memory, Behind, Gap, BadEntry, Stopped, Device}
 
--- the entry is the push that is under way
+-- the entry is the push that is under way: one of changes
 pub record IsOwn (position : Position) (entry : LogEntry) : Type 0 where
-  pub under_way : position.flight ≡ Some (entry_changes entry)
+  pub changes : List TableChanges
+  pub body : entry.body ≡ Changes changes
+  pub under_way : position.flight ≡ Some changes
   pub from_here : entry.origin ≡ position.id
   pub last : entry.number ≡ position.number
 
--- no version is behind this one, or the entry is another's and isn't defined on the log's rows
+-- no version is behind this one, or the entry is another's and isn't defined on the log's rows, or may not widen its table so
 abbrev pub IsBad : List TableDef → Position → LogEntry → View → Type 0
 IsBad tables position entry view =
     (position.version ≡ 2 ^ 64 - 1)
-    ⊎ ((IsOwn position entry → ⊥) × (IsDefinedOn tables (entry_changes entry) (base position.flight view) → ⊥))
+    ⊎ ((IsOwn position entry → ⊥)
+    × (IsDefinedOn tables (entry_changes entry) (base position.flight view) × MayWiden tables entry.body → ⊥))
 
 module _ {P : Type 0} (picks : P → Clash → Wish → P → Type 0) where
   -- an entry is pulled, where there is a version behind this one. Of the own push the rows stay, and what is pending, and nobody is
-  -- asked. Another's is taken
+  -- asked. Another's is taken, where it widens no table
   abbrev pub PullsOne : List TableDef → Position → LogEntry → View → P → View → P → Type 0
   PullsOne tables position entry before p after q =
       (position.version < 2 ^ 64 - 1)
       × ((IsOwn position entry × (after ≡ before) × (q ≡ p))
-      ⊎ ((IsOwn position entry → ⊥) × IsTaken picks tables position.flight (entry_changes entry) before after p q))
+      ⊎ ((IsOwn position entry → ⊥) × WidensNone entry.body × IsTaken picks tables position.flight (entry_changes entry) before after p q))
 
   -- contents in which it was pulled at a position
   abbrev pub IsPulledIn : List TableDef → Position → LogEntry → P → P → Contents → Contents → Type 0

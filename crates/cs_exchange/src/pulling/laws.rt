@@ -70,6 +70,7 @@ pub fn pulled_or_refused<P: Picker>()
 {
     cs_store::log::laws::defined_or_not();
     cs_store::log::laws::one_body();
+    cs_store::log::laws::none_widens();
     cs_normal::laws::net_is_applied();
     cs_normal::laws::defined_is_applied();
     crate::taking::laws::one_contents();

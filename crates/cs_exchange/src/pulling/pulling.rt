@@ -2,7 +2,6 @@
 
 ghost use Rattle.std.specs.Prelude.{◌≡◌, ◌≢◌, ◌↔◌, true, false, ◌<◌, ◌-◌, ◌^◌, Err, IfErr, IsTrue, OnErr, OnOk};
 ghost use Rattle.std.specs.FinMap.{len};
-ghost use Rattle.cs_store.specs.log.Entry.{entry_changes};
 ghost use Rattle.cs_pending.specs.Calls.{WritesStore};
 ghost use Rattle.cs_pending.specs.View.{View};
 ghost use Rattle.cs_pending.specs.position.Shows.{ShowsAt, ShowsSomeAt};
@@ -14,33 +13,21 @@ use crate::pulling::fault::PullFault;
 use crate::pushing::confirm;
 use crate::taking::take_changes;
 use cs_conflict::Picker;
-use cs_normal::Normal;
 use cs_pending::position::Position;
 use cs_store::RowStore;
-use cs_store::log::{Body, LogEntry};
+use cs_store::log::LogEntry;
 use cs_value::Catalog;
 use std::alloc::Global;
-
-/// The changes of an entry.
-fn changes_in(entry: &LogEntry) -> &Normal
-    ensures { result.now ≡ entry_changes entry.now }
-{
-    match &entry.body {
-        Body::Changes(changes) => changes,
-    }
-}
 
 /// Whether the entry is the push that is under way.
 fn is_own(position: &Position, entry: &LogEntry) -> bool
     ensures { IsTrue result ↔ IsOwn position.now entry.now }
 {
-    match &position.flight {
-        None => false,
-        Some(changes) => {
-            entry.origin == position.id
-                && entry.number == position.number
-                && changes.same(changes_in(entry))
+    match (&position.flight, entry.body.changes()) {
+        (Some(flight), Some(changes)) => {
+            entry.origin == position.id && entry.number == position.number && flight.same(changes)
         }
+        _ => false,
     }
 }
 
@@ -52,7 +39,7 @@ fn is_last(version: u64) -> bool
     version == u64::MAX
 }
 
-/// Pulls the entry at the position's version.
+/// Pulls the entry at the position's version. One that widens a table is refused.
 pub(crate) fn take_next<S: RowStore, P: Picker>(
     alloc: Global,
     store: &mut S,
@@ -76,16 +63,20 @@ pub(crate) fn take_next<S: RowStore, P: Picker>(
     ensures behind { result ≢ Err Behind }
     ensures gap { result ≢ Err Gap }
 {
+    cs_store::log::laws::none_widens();
     if is_last(position.version) {
         return Err(PullFault::BadEntry);
     }
+    let Some(changes) = entry.body.changes() else {
+        return Err(PullFault::BadEntry);
+    };
     if is_own(position, entry) {
         return match confirm(alloc, store, catalog, position) {
             Ok(()) => Ok(()),
             Err(fault) => Err(PullFault::from(fault)),
         };
     }
-    match take_changes(alloc, store, catalog, position, changes_in(entry), picker) {
+    match take_changes(alloc, store, catalog, position, changes, picker) {
         Ok(()) => Ok(()),
         Err(fault) => Err(PullFault::from(fault)),
     }
@@ -93,7 +84,7 @@ pub(crate) fn take_next<S: RowStore, P: Picker>(
 
 /// Pulls the entry of the hub's log that is told at an index. Where it is the push that is under way, that is confirmed. Another's
 /// is taken, by the three-way merge (`crate::taking::take_changes`). It is one commit. The first fault that holds is told: `Behind`,
-/// `Gap`, `BadEntry`, `Stopped`.
+/// `Gap`, `BadEntry`, `Stopped`. An entry that widens a table is a `BadEntry`.
 pub fn take_entry<S: RowStore, P: Picker>(
     alloc: Global,
     store: &mut S,

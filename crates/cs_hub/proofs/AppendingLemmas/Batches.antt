@@ -1,12 +1,15 @@
 -- An entry that was tried, and its commit.
-use Rattle.std.proofs.Common.{◌≡◌, List, Option, Some, None, IsSome, Result, Ok, Err, refl, sym, subst}
+use Rattle.std.proofs.Common.{◌≡◌, ◌∙◌, List, length, Option, Some, None, IsSome, Result, Ok, Err, refl, sym, subst}
 use Rattle.cs_value.specs.Key.{Place}
 use Rattle.cs_value.specs.Catalog.{AreTables}
 use Rattle.cs_value.specs.declared.catalog.TableDef.{TableDef}
 use Rattle.cs_normal.specs.State.{State, IsApplied, IsDefinedOn}
-use Rattle.cs_store.specs.log.Entry.{entry_changes}
-use Rattle.cs_store.specs.log.Log.{IsNextEntry, state_of}
+use Rattle.cs_store.specs.log.Entry.{MayWiden, WidensNone, changes_of_body, entry_changes}
+use Rattle.cs_store.specs.log.Laws.{CatalogStays}
+use Rattle.cs_store.specs.log.Log.{IsLog, IsMade, IsNextEntry, catalog_after, catalog_at, state_of}
 use Rattle.cs_store.specs.log.Stored.{IsEntryOf}
+use Rattle.cs_store.specs.declared.log.body.Body.{Body}
+use Rattle.cs_store.specs.declared.log.body.Body.TheVariants.{Changes, Widen}
 use Rattle.cs_store.specs.declared.log.entry.LogEntry.{LogEntry}
 use Rattle.cs_store.specs.Calls.{Commits}
 use Rattle.cs_store.specs.Contents.{Contents}
@@ -20,8 +23,8 @@ use Rattle.cs_store.specs.declared.store.RowStore.{Ghosts}
 use Rattle.cs_pending.specs.Calls.{ReadsStore, WritesStore}
 use Rattle.cs_pending.specs.Storing.{WasRead, committed, not_committed, same_err, then_not_written, then_written}
 use Rattle.cs_hub.specs.log_store.Laws.{AppendShows}
-use Rattle.cs_hub.specs.log_store.Shows.{ShowsSomeLog}
-use Rattle.cs_hub.specs.appending.Appended.{AppendsEntry, IsAppendFault, IsAppendedIn}
+use Rattle.cs_hub.specs.log_store.Shows.{ShowsLog, ShowsSomeLog}
+use Rattle.cs_hub.specs.appending.Appended.{AppendsEntry, IsAppendFault, IsAppendedIn, IsFirstConflict}
 use Rattle.cs_hub.specs.appending.Steps.{IsBatchOf, IsNotTried, IsTried}
 use Rattle.cs_hub.specs.declared.appending.fault.AppendFault.{AppendFault}
 use Rattle.cs_hub.specs.declared.appending.fault.AppendFault.TheVariants.{Memory, Conflict as OnConflict, Device}
@@ -34,21 +37,44 @@ defined opening log entry after applied = (applied.0, λ name key. some_is _ _ (
     some_is None place e = absurd cc
     some_is (Some p) place e = refl
 
-module _ (opening : List TableDef) (entry : LogEntry) (are : AreTables opening) (fits : IsEntryOf opening entry) where
+-- what is applied is made, and the catalog stays, where no table is widened
+made_of : (tables : List TableDef) (body : Body) (before end : State) → WidensNone body → IsApplied tables (changes_of_body body) before end → IsMade tables body before end
+made_of tables (Changes changes) before end none applied = applied
+made_of tables (Widen table width) before end none applied = absurd none
+
+kept_by : (tables : List TableDef) (body : Body) → WidensNone body → catalog_after tables body ≡ tables
+kept_by tables (Changes changes) none = refl
+kept_by tables (Widen table width) none = absurd none
+
+-- the rows of a log that is shown are held by the tables that it opened with
+pub holds_opening : CatalogStays → (opening : List TableDef) (contents : Contents) (log : List LogEntry) → ShowsLog opening contents log → Holds opening contents (state_of log)
+holds_opening stays opening contents log shows = subst (λ (t : List TableDef). Holds t contents (state_of log)) (stays opening log (length log) shows.is_log) shows.rows
+
+module _ (stays : CatalogStays) (opening : List TableDef) (entry : LogEntry) (are : AreTables opening) (fits : IsEntryOf opening entry) where
   -- the batch of an entry that was tried leaves it appended
-  pub appended_in : AppendShows → (old : Contents) (edits : List BodyEdit) (batch : Batch)
+  pub appended_in : AppendShows → WidensNone entry.body → (old : Contents) (edits : List BodyEdit) (batch : Batch)
       → ((before : State) → Holds opening old before → IsTried opening (entry_changes entry) old before edits)
       → IsBatchOf entry edits batch → IsAppendedIn opening entry old (after_batch batch old)
-  appended_in law old edits batch tries is log shows =
-      let tried = tries (state_of log) shows.rows in
-      let next : IsNextEntry opening log entry = record { normal = fits.changes.0; defined = defined opening log entry tried.0 tried.1 } in (
+  appended_in law none old edits batch tries is log shows =
+      let present = catalog_at opening log (length log) in
+      let same : present ≡ opening = stays opening log (length log) shows.is_log in
+      let back : opening ≡ present = sym same in
+      let tried = tries (state_of log) (holds_opening stays opening old log shows) in
+      let applied : IsApplied present (entry_changes entry) (state_of log) tried.0 = subst (λ (t : List TableDef). IsApplied t (entry_changes entry) (state_of log) tried.0) back tried.1 in
+      let next : IsNextEntry opening log entry =
+      record {
+        normal = fits.changes.0;
+        defined = defined present log entry tried.0 applied;
+        widens = subst (λ (t : List TableDef). MayWiden t entry.body) back fits.widens;
+      } in (
         next,
         law opening old log entry batch are shows (record {
           next = next;
-          fits = fits;
+          fits = subst (λ (t : List TableDef). IsEntryOf t entry) back fits;
           after = tried.0;
-          applied = tried.1;
-          edits = subst (λ (es : List BodyEdit). AreEdits opening old es tried.0) (sym is.rows) tried.2;
+          made = made_of present entry.body (state_of log) tried.0 none applied;
+          edits = subst (λ (t : List TableDef). AreEdits t old batch.rows tried.0) (back ∙ sym (kept_by present entry.body none))
+              (subst (λ (es : List BodyEdit). AreEdits opening old es tried.0) (sym is.rows) tried.2);
           no_pending = is.pending;
           no_meta = is.meta;
           item = is.log;
@@ -56,10 +82,14 @@ module _ (opening : List TableDef) (entry : LogEntry) (are : AreTables opening) 
       )
 
   -- what is told of one that can't be
-  pub told : (log : List LogEntry) (fault : AppendFault) → IsNotTried opening (entry_changes entry) (state_of log) fault → IsAppendFault opening log entry fault
-  told log Memory not = tt
-  told log (OnConflict conflict) not = ((λ next. not.0 next.defined), not.1)
-  told log Device not = tt
+  pub told : (log : List LogEntry) (fault : AppendFault) → IsLog opening log → IsNotTried opening (entry_changes entry) (state_of log) fault → IsAppendFault opening log entry fault
+  told log Memory is_log not = tt
+  told log (OnConflict conflict) is_log not =
+      let same : catalog_at opening log (length log) ≡ opening = stays opening log (length log) is_log in (
+        (λ next. not.0 (subst (λ (t : List TableDef). IsDefinedOn t (entry_changes entry) (state_of log)) same next.defined)),
+        subst (λ (t : List TableDef). IsFirstConflict t (entry_changes entry) (state_of log) conflict) (sym same) not.1,
+      )
+  told log Device is_log not = tt
 
 -- a fault of a store is told as itself
 pub was_device : (fault : StoreFault) (told : AppendFault) → (fault ≡ stored.Memory → told ≡ Memory) × (fault ≡ stored.Device → told ≡ Device) → told ≡ Device → fault ≡ stored.Device
@@ -68,8 +98,8 @@ was_device stored.Device told is at = refl
 
 module _ {S : Type 0} (g : Ghosts S) (opening : List TableDef) (entry : LogEntry) where
   -- whoever shows a log holds rows of its tables
-  pub holds_rows : (old : S) → ShowsSomeLog opening (g.contents old) → (before : State) × Holds opening (g.contents old) before
-  holds_rows old (log, shows) = (state_of log, shows.rows)
+  pub holds_rows : CatalogStays → (old : S) → ShowsSomeLog opening (g.contents old) → (before : State) × Holds opening (g.contents old) before
+  holds_rows stays old (log, shows) = (state_of log, holds_opening stays opening (g.contents old) log shows)
 
   -- a commit of a batch that appends the entry
   pub wrote : (old new : S) (batch : Batch) (result : Result (Unit {0}) StoreFault) → (g.honest old → AppendsEntry opening entry (g.contents old) batch)
@@ -108,26 +138,26 @@ module _ {S : Type 0} (g : Ghosts S) (opening : List TableDef) (entry : LogEntry
   -- ---- what was tried, told by the log that was shown
 
   -- reads of rows of the tables are reads of a log
-  pub as_log_read : {T U : Type 0} (old new : S) (t : T) (u : U) → ReadsStore g Device ((before : State) × Holds opening (g.contents old) before) old new (Ok t)
+  pub as_log_read : CatalogStays → {T U : Type 0} (old new : S) (t : T) (u : U) → ReadsStore g Device ((before : State) × Holds opening (g.contents old) before) old new (Ok t)
       → ReadsStore g Device (ShowsSomeLog opening (g.contents old)) old new (Ok u)
-  as_log_read old new t u reads = record {
+  as_log_read stays old new t u reads = record {
     was_honest = reads.was_honest;
     same = reads.same;
     crash = reads.crash;
     kept = reads.kept;
     later = reads.later;
     cause = λ e. absurd cc;
-    as_read = λ h r. reads.as_read h (holds_rows old r);
+    as_read = λ h r. reads.as_read h (holds_rows stays old r);
   }
 
-  pub as_log_refused : {T U : Type 0} (old new : S) (fault : AppendFault) → ReadsStore g {T = T} Device ((before : State) × Holds opening (g.contents old) before) old new (Err fault)
+  pub as_log_refused : CatalogStays → {T U : Type 0} (old new : S) (fault : AppendFault) → ReadsStore g {T = T} Device ((before : State) × Holds opening (g.contents old) before) old new (Err fault)
       → ReadsStore g {T = U} Device (ShowsSomeLog opening (g.contents old)) old new (Err fault)
-  as_log_refused old new fault reads = record {
+  as_log_refused stays old new fault reads = record {
     was_honest = reads.was_honest;
     same = reads.same;
     crash = reads.crash;
     kept = tt;
     later = reads.later;
     cause = λ e. reads.cause (same_err fault Device e);
-    as_read = λ h r. reads.as_read h (holds_rows old r);
+    as_read = λ h r. reads.as_read h (holds_rows stays old r);
   }

@@ -8,11 +8,10 @@ use Rattle.cs_value.specs.declared.catalog.TableDef.{TableDef}
 use Rattle.cs_group.specs.Leads.{JoinLeads}
 use Rattle.cs_group.specs.Tables.{OneJoin}
 use Rattle.cs_normal.specs.Normal.{IsNormalChangeset}
+use Rattle.cs_normal.specs.State.{AreApplied, IsStateOf}
 use Rattle.cs_store.specs.log.Entry.{WidensNone, entry_changes}
-use Rattle.cs_store.specs.log.Laws.{LogStates, PlainSlices}
-use Rattle.cs_store.specs.log.Log.{IsLog, entries_between, tables_at}
-use Rattle.cs_store.specs.declared.log.body.Body.{Body}
-use Rattle.cs_store.specs.declared.log.body.Body.TheVariants.{Changes}
+use Rattle.cs_store.specs.log.Laws.{CatalogStays, LogStates, NoneWidens, PlainSlices}
+use Rattle.cs_store.specs.log.Log.{IsLog, catalog_at, entries_between, tables_at}
 use Rattle.cs_store.specs.declared.log.entry.LogEntry.{LogEntry}
 use Rattle.cs_hub.specs.catching.Consolidated.{IsConsolidated, IsShort}
 use Rattle.cs_hub.specs.catching.Laws.{CaughtAreOthers, CaughtIsShort, ConsolidatedLeads, OneConsolidated, OthersAsLogGrows, SameEntries}
@@ -38,23 +37,24 @@ HasNormal entry = IsNormalChangeset (entry_changes entry)
 all_normal : (tables : List TableDef) (log : List LogEntry) → IsLog tables log → All HasNormal log
 all_normal tables log is = All-from_recursion HasNormal log (at_each HasNormal log (λ version entry there. (is version entry there).normal))
 
-plain : (body : Body) → WidensNone body
-plain (Changes changes) = tt
-
 abbrev IsPlain : LogEntry → Type 0
 IsPlain entry = WidensNone entry.body
 
-all_plain : (entries : List LogEntry) → AllByRecursion IsPlain entries
-all_plain [] = tt
-all_plain (first ∷ entries) = (plain first.body, all_plain entries)
+all_plain : NoneWidens → (opening : List TableDef) (log : List LogEntry) → IsLog opening log → All IsPlain log
+all_plain none opening log is =
+    All-from_recursion IsPlain log (at_each IsPlain log (λ version entry there.
+    none (catalog_at opening (take version log) (length (take version log))) entry.body (is version entry there).widens))
 
-pub consolidated_leads : JoinLeads → PlainSlices → LogStates → ConsolidatedLeads
-consolidated_leads join slices states tables log from to changes are is less within one =
+pub consolidated_leads : NoneWidens → CatalogStays → JoinLeads → PlainSlices → LogStates → ConsolidatedLeads
+consolidated_leads none stays join slices states tables log from to changes are is less within one =
     let entries = entries_between log from to in
+    let same : catalog_at tables log from ≡ tables = stays tables log from is in
     let normal : All HasNormal entries = All-drop HasNormal from (take to log) (All-take HasNormal to log (all_normal tables log is)) in
+    let plain : All IsPlain entries = All-drop IsPlain from (take to log) (All-take IsPlain to log (all_plain none tables log is)) in
     join tables (map entry_changes entries) changes (tables_at log from) (tables_at log to) are
     (recursion_from_All IsNormalChangeset (map entry_changes entries) (All-map IsNormalChangeset entry_changes entries normal))
-    one.of_tables.1 one.joined (states tables log from are is) (slices tables log from to is less (All-from_recursion IsPlain entries (all_plain entries)))
+    one.of_tables.1 one.joined (subst (λ (t : List TableDef). IsStateOf t (tables_at log from)) same (states tables log from are is))
+    (subst (λ (t : List TableDef). AreApplied t (map entry_changes entries) (tables_at log from) (tables_at log to)) same (slices tables log from to is less plain))
 
 -- ---- what is told as one
 

@@ -59,7 +59,7 @@ module _ (limit : ℕ) (opening : List TableDef) (push : Push) (some : push.chan
   refused_by log (append.Conflict shown) told normal newest is not =
       subst (λ (f : HubFault). PushesIf limit (hub_of opening log) push (Err f) (hub_of opening log)) (sym (is.conflict shown refl))
       (of_newest log (hub_of opening log) (Err (OnConflict shown)) newest
-      (inr ((λ follows. not.0 (record { normal = normal; defined = follows })), ((shown, not.1, refl), refl))))
+      (inr ((λ follows. not.0 (record { normal = normal; defined = follows; widens = tt })), ((shown, not.1, refl), refl))))
 
   pub refused : (count : ℕ) (log : List LogEntry) (fault : AppendFault) (told : HubFault) → push.head.base ≡ count → count < limit → count ≡ length log → IsNormalChangeset push.changes → IsTold fault told
       → IsAppendFault opening log (entry_of_push push) fault → IsJudgement limit (hub_of opening log) push (Err told)

@@ -1,5 +1,5 @@
 -- What the values of a hub make of contents that hold nothing.
-use Rattle.std.proofs.Common.{◌≡◌, List, [], Option, None, arith, sym, ap, subst, ◌∙◌}
+use Rattle.std.proofs.Common.{◌≡◌, List, [], Option, None, sym, ap, subst, ◌∙◌}
 use Rattle.std.specs.Prelude.{pos, fold}
 use Rattle.std.specs.FinMap.{empty, get, get-empty, len, len-empty}
 use Rattle.std.specs.Ordering.{int_cmp}
@@ -28,7 +28,7 @@ module _ (opening : List TableDef) (batch : Batch) (empty_law : EmptyIsLog) (met
   first_shows : ShowsLog opening (after_batch batch nothing) []
   first_shows = record {
     is_log = empty_law opening;
-    fit = λ k d lt. absurd (omega (arith, lt));
+    fit = λ version entry there. absurd (let no = there in cc);
     rows = record { rows = λ name key. tt; stored = λ number table key at. no_rows_left (pos number, key) };
     elsewhere = λ place out. no_rows_left place;
     pending = ap (λ (es : List BodyEdit). fold edit_body nothing.pending es) pending;

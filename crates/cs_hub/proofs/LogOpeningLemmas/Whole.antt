@@ -1,12 +1,10 @@
 -- A store that shows a log is what a hub's store is.
-use Rattle.std.proofs.Common.{◌≡◌, ◌≢◌, ◌≤◌, ◌<◌, ◌+◌, ◌-◌, ◌∙◌, inl, inr, ℕ, zero, suc, Bool, true, false, cond, List, [], ◌∷◌, Option, Some, None, is_some, option_map, arith, length, refl, ap, subst, sym}
+use Rattle.std.proofs.Common.{◌≡◌, ◌≢◌, ◌≤◌, ◌<◌, ◌+◌, ◌-◌, ◌∙◌, inl, inr, ℕ, zero, suc, Bool, true, false, cond, List, Option, Some, None, is_some, option_map, arith, length, refl, ap, subst, sym}
 use Rattle.std.specs.Prelude.{ℤ, pos, negsuc, IsSome, slice_get}
 use Rattle.std.specs.Cmp.{Equal-is}
 use Rattle.std.specs.FinMap.{contains_key, empty_of_len, get, get-empty, get-remove, len, len-remove, remove}
-use Rattle.std.specs.List.{AllByRecursion}
 use Rattle.std.specs.Ordering.{eq_by_cmp, int_cmp}
 use Rattle.std.proofs.lemmas.Cmp.{int_cmp_total}
-use Rattle.std.proofs.lemmas.List.Elements.{recursion_from_All}
 use Rattle.std.proofs.lemmas.Map.Lookups.{exact_signed}
 use Rattle.std.proofs.lemmas.Option.{same_Some, slice_get_cases}
 use Rattle.cs_value.specs.Facts.{by_test}
@@ -17,8 +15,8 @@ use Rattle.cs_value.specs.declared.catalog.TableDef.{TableDef}
 use Rattle.cs_record.specs.Spelling.{row_bytes}
 use Rattle.cs_order.specs.Order.{by_bytes}
 use Rattle.cs_normal.specs.State.{IsRowOf, MayStandAt}
+use Rattle.cs_store.specs.log.Laws.{CatalogStays}
 use Rattle.cs_store.specs.log.Log.{state_of}
-use Rattle.cs_store.specs.log.Stored.{IsEntryOf}
 use Rattle.cs_store.specs.declared.log.entry.LogEntry.{LogEntry}
 use Rattle.cs_store.specs.Contents.{Bodies, Contents, Log, LogItem, log_entry, meta_value, name_text, nothing, place_cmp, stored_tables}
 use Rattle.cs_store.specs.Whole.{AtTable, IsName, IsWhole, StoresBody, StoresRow}
@@ -29,6 +27,9 @@ use Rattle.cs_pending.specs.Shows.{IsElsewhere}
 use Rattle.cs_hub.specs.log_store.Shows.{ShowsLog, item_of_entry}
 use Rattle.cs_hub.specs.log_opening.Laws.{HubIsOpened}
 use Rattle.cs_hub.specs.log_opening.Opens.{IsHubStore}
+use Rattle.cs_store.specs.States.{Holds}
+use Rattle.cs_hub.proofs.AppendingLemmas.Batches.{holds_opening}
+use Rattle.cs_hub.proofs.LogReadingLemmas.Found.{fits_at}
 use Rattle.cs_hub.proofs.LogOpeningLemmas.Names.{named_or_not, none_at}
 
 -- ---- a log has no entry but those below its count, where all of these are there
@@ -75,11 +76,6 @@ none_else log n all long z never = none_at (get log z) (λ item e.
 
 -- ---- what stands at the places of a store that shows a log
 
-fits_at : (opening : List TableDef) (log : List LogEntry) (version : ℕ) (entry : LogEntry) → AllByRecursion (IsEntryOf opening) log → slice_get log version ≡ Some entry → IsEntryOf opening entry
-fits_at opening [] version entry all is = absurd (let no = is in cc)
-fits_at opening (first ∷ others) zero entry all is = subst (IsEntryOf opening) (same_Some first entry is) all.0
-fits_at opening (first ∷ others) (suc version) entry all is = fits_at opening others version entry all.1 is
-
 -- what may stand at a place of one table: a row of it at its own key, or none
 abbrev StandsIn : TableDef → List ℕ → Place → Type 0
 StandsIn table key None = Unit {0}
@@ -91,7 +87,10 @@ past tables key number is other e = let same : number ≡ other = (let f = e in 
 before_all : (tables : List TableDef) (key : List ℕ) (number : ℕ) → IsElsewhere tables (negsuc number, key)
 before_all tables key number other e = absurd (let no = e in cc)
 
-module _ (one : OnePlaceOfName) (opening : List TableDef) (contents : Contents) (log : List LogEntry) (are : AreTables opening) (shows : ShowsLog opening contents log) where
+module _ (stays : CatalogStays) (one : OnePlaceOfName) (opening : List TableDef) (contents : Contents) (log : List LogEntry) (are : AreTables opening) (shows : ShowsLog opening contents log) where
+  held : Holds opening contents (state_of log)
+  held = holds_opening stays opening contents log shows
+
   stands_in : (number : ℕ) (table : TableDef) (key : List ℕ) (place : Place) → slice_get opening number ≡ Some table → MayStandAt opening table.name key place → StandsIn table key place
   stands_in number table key None at stands = tt
   stands_in number table key (Some row) at (other, among, named, is) =
@@ -110,7 +109,7 @@ module _ (one : OnePlaceOfName) (opening : List TableDef) (contents : Contents) 
           refl,
           found.2,
           row_here n found.0 key body e (state_of log found.0.name key)
-              (stands_in n found.0 key (state_of log found.0.name key) found.2 (shows.rows.rows found.0.name key)) (shows.rows.stored n found.0 key found.2),
+              (stands_in n found.0 key (state_of log found.0.name key) found.2 (held.rows found.0.name key)) (held.stored n found.0 key found.2),
         )
         | inr out ↦ absurd (let no = sym e ∙ shows.elsewhere (pos n, key) (past opening key n out.0) in cc)
       ]
@@ -129,7 +128,7 @@ module _ (one : OnePlaceOfName) (opening : List TableDef) (contents : Contents) 
         | inl found ↦
             let same : item ≡ item_of_entry found.0 = same_Some item (item_of_entry found.0) (sym e ∙ shows.entries.stored n ∙ ap (option_map item_of_entry) found.2) in (
               found.0.body,
-              fits_at opening log n found.0 (recursion_from_All (IsEntryOf opening) log shows.fit) found.2,
+              fits_at stays opening contents log shows n found.0 found.2,
               ap (λ (i : LogItem). i.body) same,
             )
         | inr out ↦ absurd (let no = sym e ∙ shows.entries.stored n ∙ ap (option_map item_of_entry) out.1 in cc)
@@ -165,6 +164,6 @@ module _ (one : OnePlaceOfName) (opening : List TableDef) (contents : Contents) 
     entries = λ version less. entry_there version (subst (λ (n : ℕ). version < n) shows.entries.counted less);
   }
 
-pub hub_is_opened : OnePlaceOfName → HubIsOpened
-hub_is_opened one opening contents log are shows =
-    (not_nothing one opening contents log are shows, hub_store one opening contents log are shows)
+pub hub_is_opened : CatalogStays → OnePlaceOfName → HubIsOpened
+hub_is_opened stays one opening contents log are shows =
+    (not_nothing stays one opening contents log are shows, hub_store stays one opening contents log are shows)

@@ -3,11 +3,10 @@ use Rattle.std.proofs.Common.{◌≡◌, ◌+◌, ◌≤◌, ◌<◌, ◌∙◌,
 use Rattle.std.specs.Prelude.{slice_get}
 use Rattle.std.specs.List.{flat_map}
 use Rattle.std.proofs.lemmas.List.{append_assoc, flat_map_more, length-drop, length-map, length-take-le, take_more}
-use Rattle.std.proofs.lemmas.List.Elements.{All-get_or}
-use Rattle.std.proofs.lemmas.Option.{same_Some, get_or_from_slice_get, slice_get_within}
+use Rattle.std.proofs.lemmas.Option.{same_Some}
 use Rattle.cs_value.specs.Catalog.{AreTables}
 use Rattle.cs_value.specs.declared.catalog.TableDef.{TableDef}
-use Rattle.cs_store.specs.log.Laws.{OneBody}
+use Rattle.cs_store.specs.log.Laws.{CatalogStays, OneBody}
 use Rattle.cs_store.specs.log.Stored.{IsEntryOf}
 use Rattle.cs_store.specs.declared.log.entry.LogEntry.{LogEntry}
 use Rattle.cs_store.specs.declared.log.fault.BodyFault.{BodyFault}
@@ -32,11 +31,10 @@ use Rattle.cs_hub.specs.log_reading.Steps.{AreStoredAs, AreToldAs, HasRange, IsS
 
 -- ---- an entry is told by what is stored of it
 
--- an entry of a log that is shown fits the tables
-pub fits_at : (opening : List TableDef) (contents : Contents) (log : List LogEntry) → ShowsLog opening contents log → (version : ℕ) (entry : LogEntry) → slice_get log version ≡ Some entry → IsEntryOf opening entry
-fits_at opening contents log shows version entry is =
-    subst (IsEntryOf opening) (get_or_from_slice_get log version entry entry is)
-    (All-get_or (IsEntryOf opening) log version entry (slice_get_within log version entry is) shows.fit)
+-- an entry of a log that is shown fits the tables that the log opened with: by these it is read
+pub fits_at : CatalogStays → (opening : List TableDef) (contents : Contents) (log : List LogEntry) → ShowsLog opening contents log → (version : ℕ) (entry : LogEntry) → slice_get log version ≡ Some entry → IsEntryOf opening entry
+fits_at stays opening contents log shows version entry is =
+    subst (λ (tables : List TableDef). IsEntryOf tables entry) (stays opening log version shows.is_log) (shows.fit version entry is)
 
 found_in : OneBody → (opening : List TableDef) → AreTables opening → (entry : LogEntry) → IsEntryOf opening entry → (found : Option LogEntry)
     → ((other : LogEntry) → found ≡ Some other → IsEntryOf opening other) → option_map item_of_entry found ≡ Some (item_of_entry entry) → found ≡ Some entry
@@ -45,10 +43,10 @@ found_in law opening are entry fits (Some other) others is =
     ap (λ (e : LogEntry). Some e) (one_entry law opening are other entry (others other refl) fits (same_Some (item_of_entry other) (item_of_entry entry) is))
 
 -- what is stored as an entry is that entry of the log
-pub has_it : OneBody → (opening : List TableDef) → AreTables opening → (contents : Contents) (log : List LogEntry) → ShowsLog opening contents log → (version : ℕ) (entry : LogEntry) → IsEntryOf opening entry
+pub has_it : CatalogStays → OneBody → (opening : List TableDef) → AreTables opening → (contents : Contents) (log : List LogEntry) → ShowsLog opening contents log → (version : ℕ) (entry : LogEntry) → IsEntryOf opening entry
     → (item : LogItem) → log_entry contents version ≡ Some item → item ≡ item_of_entry entry → slice_get log version ≡ Some entry
-has_it law opening are contents log shows version entry fits item at is =
-    found_in law opening are entry fits (slice_get log version) (λ other there. fits_at opening contents log shows version other there)
+has_it stays law opening are contents log shows version entry fits item at is =
+    found_in law opening are entry fits (slice_get log version) (λ other there. fits_at stays opening contents log shows version other there)
     (sym (shows.entries.stored version) ∙ at ∙ ap (λ (i : LogItem). Some i) is)
 
 -- an entry of the log is stored
@@ -69,16 +67,16 @@ cut_at [] i less = absurd (omega (arith, less))
 cut_at (x ∷ xs) zero less = (x, refl, refl)
 cut_at (x ∷ xs) (suc i) less = let rest = cut_at xs i (omega (arith, less)) in (rest.0, rest.1, rest.2)
 
-pub are_stored : (opening : List TableDef) (contents : Contents) (log : List LogEntry) → ShowsLog opening contents log → (first count : ℕ) → first + count ≤ length log
+pub are_stored : CatalogStays → (opening : List TableDef) (contents : Contents) (log : List LogEntry) → ShowsLog opening contents log → (first count : ℕ) → first + count ≤ length log
     → AreStoredAs opening (log_range contents first count) (take count (drop first log))
-are_stored opening contents log shows first zero within = tt
-are_stored opening contents log shows first (suc count) within =
+are_stored stays opening contents log shows first zero within = tt
+are_stored stays opening contents log shows first (suc count) within =
     let at = cut_at log first (omega (arith, within)) in
     let next : suc first ≡ first + 1 = omega arith in
-    let one : IsStoredAs opening (item_of_entry at.0) at.0 = record { is = refl; fits = fits_at opening contents log shows first at.0 at.1 } in
+    let one : IsStoredAs opening (item_of_entry at.0) at.0 = record { is = refl; fits = fits_at stays opening contents log shows first at.0 at.1 } in
     subst (λ (es : List LogEntry). AreStoredAs opening (log_range contents first (suc count)) (take (suc count) es)) (sym (at.2 ∙ ap (λ (n : ℕ). at.0 ∷ drop n log) next))
     (subst (λ (o : Option LogItem). AreStoredAs opening (entry_before o (log_range contents (first + 1) count)) (at.0 ∷ take count (drop (first + 1) log))) (sym (stored_as opening contents log shows first at.0 at.1))
-    (one, are_stored opening contents log shows (first + 1) count (omega (arith, within))))
+    (one, are_stored stays opening contents log shows (first + 1) count (omega (arith, within))))
 
 pub same_length : (opening : List TableDef) (items : List LogItem) (entries : List LogEntry) → AreStoredAs opening items entries → length items ≡ length entries
 same_length opening [] [] are = refl
@@ -89,17 +87,29 @@ same_length opening (i ∷ is) (e ∷ es) are = let rest = same_length opening i
 pub range_length : (first count : ℕ) (log : List LogEntry) → first + count ≤ length log → length (take count (drop first log)) ≡ count
 range_length first count log within = length-take-le count (drop first log) (omega (arith, within, length-drop first log))
 
+-- each is stored as an answer tells it
+pub told_from : (opening : List TableDef) (contents : Contents) (log : List LogEntry) → ShowsLog opening contents log → (first count : ℕ) → first + count ≤ length log
+    → AreToldAs (log_range contents first count) (map told_entry (take count (drop first log)))
+told_from opening contents log shows first zero within = tt
+told_from opening contents log shows first (suc count) within =
+    let at = cut_at log first (omega (arith, within)) in
+    let next : suc first ≡ first + 1 = omega arith in
+    let one : IsToldAs (item_of_entry at.0) (told_entry at.0) = record { is = refl; size = (shows.fit first at.0 at.1).size } in
+    subst (λ (es : List LogEntry). AreToldAs (log_range contents first (suc count)) (map told_entry (take (suc count) es))) (sym (at.2 ∙ ap (λ (n : ℕ). at.0 ∷ drop n log) next))
+    (subst (λ (o : Option LogItem). AreToldAs (entry_before o (log_range contents (first + 1) count)) (told_entry at.0 ∷ map told_entry (take count (drop (first + 1) log)))) (sym (stored_as opening contents log shows first at.0 at.1))
+    (one, told_from opening contents log shows (first + 1) count (omega (arith, within))))
+
+told_length : (items : List LogItem) (tolds : List ToldEntry) → AreToldAs items tolds → length items ≡ length tolds
+told_length [] [] are = refl
+told_length [] (t ∷ ts) are = absurd are
+told_length (i ∷ is) [] are = absurd are
+told_length (i ∷ is) (t ∷ ts) are = let rest = told_length is ts are.1 in omega (arith, rest)
+
 pub has_range : (opening : List TableDef) (contents : Contents) (first count : ℕ) → ShowsEntries opening contents first count → HasRange contents first count
 has_range opening contents first count some =
-    same_length opening (log_range contents first count) (take count (drop first some.0)) (are_stored opening contents some.0 some.1 first count some.2)
+    told_length (log_range contents first count) (map told_entry (take count (drop first some.0))) (told_from opening contents some.0 some.1 first count some.2)
+    ∙ length-map (take count (drop first some.0)) told_entry
     ∙ range_length first count some.0 some.2
-
--- it is stored as an answer tells it
-pub are_told : (opening : List TableDef) (items : List LogItem) (entries : List LogEntry) → AreStoredAs opening items entries → AreToldAs items (map told_entry entries)
-are_told opening [] [] are = tt
-are_told opening [] (e ∷ es) are = absurd are
-are_told opening (i ∷ is) [] are = absurd are
-are_told opening (i ∷ is) (e ∷ es) are = (record { is = are.0.is; size = are.0.fits.size }, are_told opening is es are.1)
 
 -- ---- one more of those that are stored
 

@@ -13,7 +13,7 @@ use Rattle.cs_store.specs.Contents.{LogItem}
 use Rattle.cs_store.specs.Written.{item_of, items_of}
 use Rattle.cs_store.specs.declared.batch.StoredEntry.{StoredEntry}
 use Rattle.cs_store.specs.declared.log.body.Body.{Body}
-use Rattle.cs_store.specs.declared.log.body.Body.TheVariants.{Changes}
+use Rattle.cs_store.specs.declared.log.body.Body.TheVariants.{Changes, Widen}
 use Rattle.cs_store.specs.declared.log.entry.LogEntry.{LogEntry}
 use Rattle.cs_store.specs.declared.log.entry.TheConstants.{MAX_CHANGESET}
 use Rattle.cs_store.specs.log.Entry.{changes_of_body, entry_changes}
@@ -82,6 +82,7 @@ bytes_more before now last grown = ap bytes_of grown ∙ sum_by_push (λ (change
 
 spelled_within : (body : Body) → length (normal_spelling (changes_of_body body)) ≤ length (stored_body body)
 spelled_within (Changes changes) = omega arith
+spelled_within (Widen table width) = omega arith
 
 pub counted_more : (opening : List TableDef) (before now : List (List TableChanges)) (item : StoredEntry) (read : LogEntry) (bytes more : ℕ) → IsStoredAs opening (item_of item) read → now ≡ before ++ entry_changes read ∷ []
     → (more ≤ MAX_CHANGESET → more ≡ bytes + length item.body.items) → AreCounted before bytes → AreCounted now more

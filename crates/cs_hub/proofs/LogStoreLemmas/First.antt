@@ -1,5 +1,5 @@
 -- A store of a hub without entries.
-use Rattle.std.proofs.Common.{◌≡◌, ◌≢◌, ℕ, List, [], ◌∷◌, None, refl, sym, ◌∙◌, arith}
+use Rattle.std.proofs.Common.{◌≡◌, ◌≢◌, ℕ, List, [], ◌∷◌, None, refl, sym, ◌∙◌}
 use Rattle.std.specs.FinMap.{get, find, from_entries, get-empty, get-from_entries, len-empty}
 use Rattle.std.specs.Ordering.{int_cmp}
 use Rattle.std.proofs.lemmas.Cmp.{nat_list_cmp_total}
@@ -41,7 +41,7 @@ module _ (opening : List TableDef) where
   pub first_shows : EmptyIsLog → ShowsLog opening first []
   first_shows law = record {
     is_log = law opening;
-    fit = λ k d lt. absurd (omega (arith, lt));
+    fit = λ version entry there. absurd (let no = there in cc);
     rows = record { rows = λ name key. tt; stored = λ number table key at. get-empty place_cmp _ };
     elsewhere = λ place out. get-empty place_cmp place;
     pending = refl;

@@ -2,9 +2,8 @@
 use Rattle.std.specs.Prelude.{◌≡◌, List, length, [], ◌∷◌, ◌++◌, Some}
 use Rattle.cs_value.specs.Catalog.{AreTables}
 use Rattle.cs_value.specs.declared.catalog.TableDef.{TableDef}
-use Rattle.cs_normal.specs.State.{State, IsApplied}
-use Rattle.cs_store.specs.log.Entry.{entry_changes}
-use Rattle.cs_store.specs.log.Log.{IsNextEntry, catalog_at, state_of}
+use Rattle.cs_normal.specs.State.{State}
+use Rattle.cs_store.specs.log.Log.{IsMade, IsNextEntry, catalog_at, catalog_next, state_of}
 use Rattle.cs_store.specs.log.Stored.{IsEntryOf}
 use Rattle.cs_store.specs.declared.log.entry.LogEntry.{LogEntry}
 use Rattle.cs_store.specs.Contents.{Contents}
@@ -22,13 +21,14 @@ OneLog =
     → ShowsLog opening contents other
     → some ≡ other
 
--- a batch of the next entry of the log, and of the edits that make what the entry makes of the rows
+-- a batch of the next entry of the log, and of the edits that make what the entry makes of the rows. These are edits of the tables
+-- that the catalog has behind the entry
 pub record IsEntryBatch (opening : List TableDef) (contents : Contents) (log : List LogEntry) (entry : LogEntry) (batch : Batch) : Type 0 where
   pub next : IsNextEntry opening log entry
-  pub fits : IsEntryOf opening entry
+  pub fits : IsEntryOf (catalog_at opening log (length log)) entry
   pub after : State
-  pub applied : IsApplied (catalog_at opening log (length log)) (entry_changes entry) (state_of log) after
-  pub edits : AreEdits (catalog_at opening log (length log)) contents batch.rows after
+  pub made : IsMade (catalog_at opening log (length log)) entry.body (state_of log) after
+  pub edits : AreEdits (catalog_next (catalog_at opening log (length log)) entry) contents batch.rows after
   pub no_pending : batch.pending ≡ []
   pub no_meta : batch.meta.items ≡ []
   pub item : optional_entry batch.log ≡ Some (item_of_entry entry)

@@ -1,9 +1,9 @@
 -- What a store holds of a hub with a log (profile of this project).
-use Rattle.std.specs.Prelude.{◌≡◌, ◌≢◌, ℕ, pos, List, length, All, option_map, Option, Some, None, slice_get}
+use Rattle.std.specs.Prelude.{◌≡◌, ◌≢◌, ℕ, pos, List, length, option_map, Option, Some, None, slice_get}
 use Rattle.std.specs.FinMap.{empty, get}
 use Rattle.cs_value.specs.declared.catalog.TableDef.{TableDef}
 use Rattle.cs_store.specs.log.Log.{IsLog, catalog_at, state_of}
-use Rattle.cs_store.specs.log.Stored.{IsEntryOf, stored_body}
+use Rattle.cs_store.specs.log.Stored.{AreEntriesOf, stored_body}
 use Rattle.cs_store.specs.declared.log.entry.LogEntry.{LogEntry}
 use Rattle.cs_store.specs.Contents.{Contents, LogItem, StorePlace, log_count, log_entry, meta_value, name_text}
 use Rattle.cs_store.specs.States.{Holds}
@@ -39,7 +39,7 @@ pub record HasHubValues (opening : List TableDef) (contents : Contents) : Type 0
 -- nothing else
 pub record ShowsLog (opening : List TableDef) (contents : Contents) (log : List LogEntry) : Type 0 where
   pub is_log : IsLog opening log
-  pub fit : All (IsEntryOf opening) log
+  pub fit : AreEntriesOf opening log
   pub rows : Holds (catalog_at opening log (length log)) contents (state_of log)
   pub elsewhere : (place : StorePlace) → IsElsewhere opening place → get contents.rows place ≡ None
   pub pending : contents.pending ≡ empty

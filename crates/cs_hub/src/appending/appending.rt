@@ -4,7 +4,6 @@ ghost use Rattle.std.specs.Prelude.{◌≡◌, List, IfOk, IfErr};
 ghost use Rattle.std.specs.Fn.{CalledAt};
 ghost use Rattle.cs_normal.specs.Normal.{FitsCatalog};
 ghost use Rattle.cs_normal.specs.State.{State};
-ghost use Rattle.cs_store.specs.log.Entry.{entry_changes};
 ghost use Rattle.cs_store.specs.log.Stored.{IsEntryOf};
 ghost use Rattle.cs_store.specs.declared.log.entry.LogEntry.{LogEntry as Entry};
 ghost use Rattle.cs_conflict.specs.declared.conflict.Resolution.TheVariants.{Abort};
@@ -22,7 +21,8 @@ use cs_apply::{ApplyFault, apply};
 use cs_conflict::{Conflict, Resolution};
 use cs_normal::Normal;
 use cs_store::edits::PlaceEdits;
-use cs_store::log::{Body, LogEntry, put_body};
+use cs_store::log::laws::{catalog_stays, none_widens};
+use cs_store::log::{LogEntry, put_body};
 use cs_store::{Batch, RowStore, StoreFault, StoredEntry};
 use cs_value::{Catalog, Memory};
 use std::alloc::Global;
@@ -85,15 +85,6 @@ fn try_changes<S: RowStore>(
     )
 }
 
-/// The changes of an entry.
-fn changes_of(entry: &LogEntry) -> &Normal
-    ensures { result.now ≡ entry_changes entry.now }
-{
-    match &entry.body {
-        Body::Changes(changes) => changes,
-    }
-}
-
 /// What writes these edits of rows, and the entry.
 fn batch_of(alloc: Global, entry: &LogEntry, edits: PlaceEdits) -> Result<Batch, Memory>
     ensures { IfOk result (IsBatchOf entry.now edits) }
@@ -135,8 +126,13 @@ pub fn try_entry<S: RowStore>(
         → IfErr result (IsAppendFault catalog.now log entry.now) }
 {
     crate::log_store::laws::append_shows();
+    none_widens();
+    catalog_stays();
     let _tables = catalog.tables();
-    let edits = match try_changes(alloc, store, catalog, changes_of(entry)) {
+    let Some(changes) = entry.body.changes() else {
+        unreachable!()
+    };
+    let edits = match try_changes(alloc, store, catalog, changes) {
         Ok(edits) => edits,
         Err(fault) => return Err(fault),
     };

@@ -32,6 +32,8 @@ pub fn consolidated_leads()
     cs_group::laws::join_leads();
     cs_store::log::laws::plain_slices();
     cs_store::log::laws::log_states();
+    cs_store::log::laws::none_widens();
+    cs_store::log::laws::catalog_stays();
 }
 
 /// What a replica that asks to catch up is told as one are entries of others', and the log's, also as that grows. It fits a message.

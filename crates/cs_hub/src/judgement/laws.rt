@@ -3,7 +3,7 @@
 ghost use Rattle.cs_hub.specs.judgement.Laws.{OneAnswer, PushHasAnswer};
 
 use crate::appending::laws::{defined_or_conflict, one_first_conflict};
-use cs_store::log::laws::{defined_or_not, one_body};
+use cs_store::log::laws::{catalogs_are_tables, defined_or_not, one_body};
 
 /// The answer to a push, and the hub after it, are determined by the hub and the push.
 pub fn one_answer()
@@ -20,4 +20,5 @@ pub fn push_has_answer()
     defined_or_not();
     defined_or_conflict();
     one_body();
+    catalogs_are_tables();
 }

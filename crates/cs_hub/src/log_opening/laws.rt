@@ -17,4 +17,5 @@ pub fn hub_is_opened()
     ensures { HubIsOpened }
 {
     cs_value::laws::catalogs();
+    cs_store::log::laws::catalog_stays();
 }

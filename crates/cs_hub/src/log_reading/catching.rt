@@ -11,6 +11,7 @@ ghost use Rattle.cs_hub.specs.log_store.Shows.{ShowsLog};
 
 use crate::catching::{Caught, take_run};
 use crate::log_reading::others::others_at;
+use cs_store::log::laws::catalog_stays;
 use cs_store::{RowStore, StoreFault};
 use cs_value::Catalog;
 use std::alloc::Global;
@@ -40,6 +41,7 @@ pub fn catch_at<S: RowStore>(
         → IfOk result (Catches (catalog_at catalog.now log first) asker limit (drop first log)) }
 {
     cs_group::laws::one_join();
+    catalog_stays();
     let _tables = catalog.tables();
     let count = limit.min(newest - first);
     let others = match others_at(alloc, store, catalog, asker, first, count) {

@@ -9,7 +9,7 @@ ghost use Rattle.cs_store.specs.declared.fault.StoreFault.TheVariants.{Device};
 ghost use Rattle.cs_store.specs.declared.log.entry.LogEntry.{LogEntry as Entry};
 ghost use Rattle.cs_store.specs.declared.log.entry.TheConstants.{MAX_CHANGESET};
 ghost use Rattle.cs_store.specs.declared.log.fault.BodyFault.TheVariants.{NoBody};
-ghost use Rattle.cs_store.specs.log.Entry.{entry_changes};
+ghost use Rattle.cs_store.specs.log.Entry.{WidensNone, entry_changes};
 ghost use Rattle.cs_store.specs.log.Stored.{AreChangesOf};
 ghost use Rattle.cs_hub.specs.log_reading.Reading.{ShowsEntries};
 ghost use Rattle.cs_hub.specs.log_reading.Steps.{AreOthers, AreStoredAs};
@@ -18,7 +18,7 @@ ghost use Rattle.cs_hub.specs.log_store.Shows.{ShowsLog};
 use crate::catching::is_told_alone;
 use crate::log_reading::reading::{read_entry, stored_from};
 use cs_normal::Normal;
-use cs_store::log::laws::most_bytes;
+use cs_store::log::laws::{catalog_stays, most_bytes, none_widens};
 use cs_store::log::{Body, BodyFault, LogEntry};
 use cs_store::{RowStore, StoreFault, StoredEntry};
 use cs_value::Catalog;
@@ -33,10 +33,12 @@ pub(crate) struct Others {
 
 /// The changeset of an entry.
 fn into_changes(entry: LogEntry) -> Normal
+    requires { WidensNone entry.body }
     ensures { result ≡ entry_changes entry }
 {
     match entry.body {
         Body::Changes(changes) => changes,
+        Body::Widen { .. } => unreachable!(),
     }
 }
 
@@ -56,6 +58,7 @@ fn read_others(
         → sum_by (λ changes. length (normal_spelling changes)) others.changesets.items ≤ MAX_CHANGESET) }
 {
     most_bytes();
+    none_widens();
     let mut changesets = Vec::with_capacity(alloc, stored.len())?;
     let mut bytes: u64 = 0;
     for entry in stored {
@@ -98,6 +101,7 @@ pub(crate) fn others_at<S: RowStore>(
     ensures counted { IfOk result (λ others. others.bytes ≤ MAX_CHANGESET
         → sum_by (λ changes. length (normal_spelling changes)) others.changesets.items ≤ MAX_CHANGESET) }
 {
+    catalog_stays();
     let stored = match stored_from(store, first, count) {
         Ok(stored) => stored,
         Err(fault) => return Err(fault),

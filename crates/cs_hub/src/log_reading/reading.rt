@@ -12,7 +12,7 @@ ghost use Rattle.cs_store.specs.Contents.{log_range};
 ghost use Rattle.cs_store.specs.Written.{item_of, items_of};
 ghost use Rattle.cs_store.specs.declared.fault.StoreFault.TheVariants.{Device};
 
-use cs_store::log::laws::one_body;
+use cs_store::log::laws::{catalog_stays, one_body};
 use cs_store::log::{Body, BodyFault, LogEntry, put_body, read_body};
 use cs_store::{RowStore, StoreFault, StoredEntry};
 use cs_value::{Catalog, Memory};
@@ -80,6 +80,7 @@ pub fn has_entry<S: RowStore>(
         → IfOk result (λ has. IsTrue has ↔ (slice_get log version ≡ Some entry.now)) }
 {
     one_body();
+    catalog_stays();
     let _tables = catalog.tables();
     let stored = match store.log_get(version) {
         Ok(Some(stored)) => stored,
@@ -145,6 +146,7 @@ pub fn entries_at<S: RowStore>(
     ensures found { S.honest store.new → (log : List Entry) → ShowsLog catalog.now (S.contents store.old) log
         → first + count ≤ length log → IfOk result (λ entries. entries.items ≡ take count (drop first log)) }
 {
+    catalog_stays();
     let stored = match stored_from(store, first, count) {
         Ok(stored) => stored,
         Err(fault) => return Err(fault),

@@ -3,13 +3,16 @@
 ghost use Rattle.cs_hub.specs.log_store.Laws.{AppendShows, FirstLogCanBe, OneLog};
 
 use cs_store::laws::commits;
-use cs_store::log::laws::{appended_is_log, empty_is_log, log_states, one_body};
+use cs_store::log::laws::{
+    appended_is_log, catalog_next, empty_is_log, entry_leads, log_states, longer_log,
+    one_stored_log,
+};
 
 /// A store shows one log at most.
 pub fn one_log()
     ensures { OneLog }
 {
-    one_body();
+    one_stored_log();
 }
 
 /// A commit of the next entry, with the edits that make of the rows what it makes of them, shows the longer log.
@@ -18,6 +21,9 @@ pub fn append_shows()
 {
     appended_is_log();
     log_states();
+    longer_log();
+    catalog_next();
+    entry_leads();
     commits();
 }
 

@@ -80,9 +80,9 @@ module _ {P Q : Type 0} (picks : P → Clash → Wish → P → Type 0) (sees : 
     pulls_so : (position : Position) (entry : LogEntry) (before after : View) (p r : P) (q : Q) → stands p q → PullsOne picks tables position entry before p after r
         → (next : Q) × PullsOne sees tables position entry before q after next × stands r next
     pulls_so position entry before after p r q so (room, inl (own, same, none)) = (q, (room, inl (own, same, refl)), kept p r q so none)
-    pulls_so position entry before after p r q so (room, inr (others, taken)) =
+    pulls_so position entry before after p r q so (room, inr (others, plain, taken)) =
         let n = taken_so position.flight _ before after p r q so taken in
-        (n.0, (room, inr (others, n.1)), n.2)
+        (n.0, (room, inr (others, plain, n.1)), n.2)
 
     -- ---- the entries of an answer
 

@@ -1,7 +1,9 @@
 -- What was answered over a store that comes back, from its parts.
-use Rattle.std.proofs.Common.{◌≡◌, ℕ, ◌<◌, ◌-◌, ◌^◌, List, length, refl, sym, subst}
-use Rattle.std.specs.Prelude.{◌⊎◌, Option, Err, flat_map}
+use Rattle.std.proofs.Common.{◌≡◌, inl, inr, ℕ, ◌<◌, ◌-◌, ◌^◌, List, [], ◌∷◌, Ok, length, refl, sym, subst}
+use Rattle.std.specs.Prelude.{◌⊎◌, Option, Result, Err, flat_map}
 use Rattle.std.specs.Io.KnownBytes.{Appends}
+use Rattle.hex.specs.Hex.{decode_of}
+use Rattle.hex.specs.declared.error.FromHexError.{FromHexError}
 use Rattle.cs_hub.specs.Calls.{AnswersHub, StaysHub}
 use Rattle.cs_hub.specs.Holding.{Holding}
 use Rattle.cs_hub.specs.Laws.{RunsByLog}
@@ -10,7 +12,7 @@ use Rattle.cs_store.specs.declared.log.entry.TheConstants.{MAX_ENTRIES}
 use Rattle.cs_hub.specs.judgement.Judged.{hub_of}
 use Rattle.cs_lines.specs.Lines.{hex_line}
 use Rattle.cs_lines.specs.Reading.{AreAllBefore}
-use Rattle.cs_lines.specs.Served.{AnswersAll, AreAllLines, AreFirstLines}
+use Rattle.cs_lines.specs.Served.{Answers, AnswersAll, AnswersDecoded, AreAllLines, AreFirstLines}
 use Rattle.cs_lines.specs.Writing.{AppendsBroken}
 use Rattle.cs_lines.specs.declared.serve.Stop.{Stop}
 use Rattle.cs_lines.specs.declared.serve.Stop.TheVariants as stopped
@@ -18,6 +20,27 @@ use Rattle.cs_lines.specs.declared.serve.TheConstants.{ASKS}
 use Rattle.cs_store.specs.declared.store.RowStore.{Ghosts}
 use Rattle.cs_value.specs.declared.catalog.TableDef.{TableDef}
 use Rattle.cs_node_lines.specs.hub.Endings.{AnsweredOver, EndsServingOn, IsOpenedOver, of_stop}
+
+-- a hub that is honest behind an answer was so before it
+decoded_honest : {S : Type 0} (g : Ghosts S) (request : Result (List ℕ) FromHexError) (answer : List ℕ) (old new : Holding S)
+    → AnswersDecoded (AnswersHub g MAX_ENTRIES) old request answer new → g.honest new.store → g.honest old.store
+decoded_honest g (Ok request) answer old new is honest = is.was_honest honest
+decoded_honest {S} g (Err fault) answer old new is honest = subst (λ (h : Holding S). g.honest h.store) is.1 honest
+
+answer_honest : {S : Type 0} (g : Ghosts S) (line answer : List ℕ) (old new : Holding S)
+    → Answers (AnswersHub g MAX_ENTRIES) (StaysHub g) old line answer new → g.honest new.store → g.honest old.store
+answer_honest g line answer old new (inl is) honest = decoded_honest g (decode_of line) answer old new is honest
+answer_honest {S} g line answer old new (inr (told, inl same)) honest = subst (λ (h : Holding S). g.honest h.store) same honest
+answer_honest g line answer old new (inr (told, inr stays)) honest = stays.was_honest honest
+
+-- and so before all of them
+answers_honest : {S : Type 0} (g : Ghosts S) (lines answers : List (List ℕ)) (first end : Holding S)
+    → AnswersAll (AnswersHub g MAX_ENTRIES) (StaysHub g) first lines answers end → g.honest end.store → g.honest first.store
+answers_honest {S} g [] [] first end same honest = subst (λ (h : Holding S). g.honest h.store) same honest
+answers_honest g (line ∷ lines) (answer ∷ answers) first end (mid, one, more) honest =
+    answer_honest g line answer first mid one (answers_honest g lines answers mid end more honest)
+answers_honest g [] (answer ∷ answers) first end none honest = absurd none
+answers_honest g (line ∷ lines) [] first end none honest = absurd none
 
 module _ {S : Type 0} (g : Ghosts S) (tables : List TableDef)
     (law : RunsByLog g) (store last : S) (first end : Holding S)
@@ -33,6 +56,7 @@ module _ {S : Type 0} (g : Ghosts S) (tables : List TableDef)
     opened = opened;
     answered = all;
     left = left;
+    was_honest = λ honest. opened.was_honest (answers_honest g lines answers first end all (subst g.honest left honest));
     by_log = λ only few h log shows.
         let run = law MAX_ENTRIES first end log lines answers only (subst (λ (n : ℕ). n < 2 ^ 64 - 1) (sym opened.kept) few) (subst g.honest left h) shows all in
         (run.0, subst (λ (t : List TableDef). AnswersAll (Serves MAX_ENTRIES) IsSame (hub_of t log) lines answers (hub_of t run.0)) opened.tables_are run.1, run.2);

@@ -62,6 +62,7 @@ abbrev pub words_ask : List TableDef → List (List ℕ) → Option Ask
 words_ask tables [] = None
 words_ask tables (verb ∷ words) = verb_in tables verb words
 
--- what a line asks: an edit, `push`, `resend`, `pull LIMIT`, `catch LIMIT`, `answer HEX WISHES` or `dump`; none where it can't be read
+-- what a line asks: an edit, `push`, `resend`, `pull LIMIT`, `catch LIMIT`, `answer HEX WISHES` or `dump`; none where it can't be
+-- read
 abbrev pub ask_in : List TableDef → List ℕ → Option Ask
 ask_in tables line = words_ask tables (words_in line)

@@ -19,8 +19,8 @@ AreAsked tables lines asks = AllZip (λ line ask. ask_in tables line ≡ Some as
 abbrev pub AreAllAsks : List TableDef → Option (List ℕ) → List Ask → Type 0
 AreAllAsks tables input asks = (lines : List (List ℕ)) × AreAllLines input lines × AreAsked tables lines asks
 
--- why the input isn't read, of which this is left: want of memory, or a failed read or lines without end. Each line before could be read
--- then. Or the line with this number, from 1 on, is the first that can't be
+-- why the input isn't read, of which this is left: want of memory, or a failed read or lines without end. Each line before could
+-- be read then. Or the line with this number, from 1 on, is the first that can't be
 abbrev pub IsReadFault : List TableDef → Type 0 → Option (List ℕ) → Option (List ℕ) → ReadFault → Type 0
 IsReadFault tables read_failed input left Memory = Unit {0}
 IsReadFault tables read_failed input left Read =

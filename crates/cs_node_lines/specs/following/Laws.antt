@@ -1,4 +1,5 @@
--- The laws of requests that are answered as they come: lines make one list of requests, and each request has one text, and leaves one replica.
+-- The laws of requests that are answered as they come: lines make one list of requests, and each request has one text, and leaves
+-- one replica.
 use Rattle.std.specs.Prelude.{◌≡◌, ◌⊎◌, ℕ, List, Option, Result}
 use Rattle.std.specs.List.{AllByRecursion}
 use Rattle.cs_conflict.specs.declared.clash.Clash.{Clash}

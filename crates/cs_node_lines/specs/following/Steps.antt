@@ -97,7 +97,8 @@ HearsNoting tables before answer wishes result note after =
 
 -- ---- what is shown
 
--- what was read is this of the replica, which stays; or the reading failed, for a failed device only where the count of failures rose
+-- what was read is this of the replica, which stays; or the reading failed, for a failed device only where the count of failures
+-- rose
 abbrev pub ReadsOf : {T : Type 0} → ℕ → ℕ → (T → Type 0) → Result T StoreFault → Type 0
 ReadsOf had has said (Ok read) = said read
 ReadsOf had has said (Err fault) = fault ≡ stored.Device → MoreFailures had has

@@ -1,4 +1,5 @@
--- How a hub that answers lines ends (profile of this project): which lines were answered, what is written, and what its store holds.
+-- How a hub that answers lines ends (profile of this project): which lines were answered, what is written, and what its store
+-- holds.
 use Rattle.std.specs.Prelude.{◌≡◌, ◌<◌, ◌-◌, ◌^◌, ◌⊎◌, ⊤, ℕ, List, [], Option, Result, Ok, Err, length, flat_map}
 use Rattle.std.specs.Io.KnownBytes.{Appends, Keeps}
 use Rattle.cs_hub.specs.Calls.{AnswersHub, StaysHub}
@@ -52,6 +53,7 @@ module _ {S : Type 0} (g : Ghosts S) (tables : List TableDef) where
     pub opened : IsOpenedOver store first
     pub answered : AnswersAll (AnswersHub g MAX_ENTRIES) (StaysHub g) first lines answers end
     pub left : last ≡ end.store
+    pub was_honest : g.honest last → g.honest store
     -- over a store that never fails, but where what it gives was misread, they are answered by the log that was shown
     pub by_log : ((s : S) → g.failed s ≡ g.misreads s) → g.failed store < 2 ^ 64 - 1 → g.honest last → (log : List LogEntry) → Shows g.contents first log
         → (next : List LogEntry) × AnswersAll (Serves MAX_ENTRIES) IsSame (hub_of tables log) lines answers (hub_of tables next) × Shows g.contents end next

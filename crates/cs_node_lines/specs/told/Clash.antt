@@ -23,7 +23,8 @@ abbrev pub own_text : Place → List ℕ
 own_text (Some row) = values_text row
 own_text None = codes " -"
 
--- the letters of the wishes that are lawful beside `s`: `k` where the own change covers the other's, `t` where there is an own row
+-- the letters of the wishes that are lawful beside `s`: `k` where the own change covers the other's, `t` where there is an own
+-- row
 abbrev pub lawful_text : Kind → Bool → List ℕ
 lawful_text NotFound covered = codes "k"
 lawful_text DataDiffers true = codes "kt"

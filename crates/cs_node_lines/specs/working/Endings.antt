@@ -45,8 +45,8 @@ BreaksOff (Line number) write_failed old new before text = ⊥
 BreaksOff (Open fault) write_failed old new before text = ⊥
 
 module _ {S : Type 0} (g : Ghosts S) (tables : List TableDef) (id : ℕ) where
-  -- where the store is honest in the end, it was opened as the replica with this id. These steps were made of it with these texts, from its
-  -- count of failures on to that in the end, and it shows what they left
+  -- where the store is honest in the end, it was opened as the replica with this id. These steps were made of it, with these texts. They
+  -- go from its count of failures to that in the end, and it shows what they left
   pub record Worked {A : Type 0} (step : ℕ → ℕ → Member → A → List ℕ → Member → Type 0) (store last : S) (asked : List A) (texts : List (List ℕ)) : Type 0 where
     pub was_honest : g.honest last → g.honest store
     pub later : g.failed store ≤ g.failed last
@@ -54,7 +54,8 @@ module _ {S : Type 0} (g : Ghosts S) (tables : List TableDef) (id : ℕ) where
         × IsStoreOpened tables id (g.contents store) first before.position × ShowsAt tables first before.position before.view
         × InTurn step (g.failed store) (g.failed last) before asked texts after × ShowsAt tables (g.contents last) after.position after.view
 
-  -- where the store is honest, it holds what it held, and isn't opened for this reason: for a failed device only where its count rose
+  -- where the store is honest, it holds what it held, and isn't opened for this reason: for a failed device only where its count
+  -- rose
   pub record NotOpened (store last : S) (fault : OpenFault) : Type 0 where
     pub was_honest : g.honest last → g.honest store
     pub later : g.failed store ≤ g.failed last
@@ -62,7 +63,8 @@ module _ {S : Type 0} (g : Ghosts S) (tables : List TableDef) (id : ℕ) where
     pub refused : g.honest last → IsStoreFault tables id (g.contents store) fault
     pub cause : fault ≡ opening.Device → MoreFailures (g.failed store) (g.failed last)
 
-  -- some of the lines were worked. The text of the last of them isn't printed whole: memory was refused for it, or the writer failed
+  -- some of the lines were worked. The text of the last of them isn't printed whole: memory was refused for it, or the writer
+  -- failed
   abbrev pub WorkedUpTo : List Ask → S → S → NodeFault → Type 0 → Option (List ℕ) → Option (List ℕ) → Type 0
   WorkedUpTo asks store last fault write_failed old new =
       (done : List Ask) × (ask : Ask) × (later : List Ask) × (texts : List (List ℕ)) × (text : List ℕ)

@@ -1,5 +1,6 @@
--- What a line makes of a replica, and what is printed of it (profile of this project). A replica is seen as what its store shows: where it
--- stands, its rows and its pending changes. Where a failed device is told, the store's count of failures rose: from `had` to `has`.
+-- What a line makes of a replica, and what is printed of it (profile of this project). A replica is seen as what its store shows:
+-- where it stands, its rows and its pending changes. Where a failed device is told, the store's count of failures rose: from
+-- `had` to `has`.
 use Rattle.std.specs.Prelude.{◌≡◌, ◌⊎◌, ◌≤◌, ◌++◌, ℕ, List, [], ◌∷◌, Result, Err, codes}
 use Rattle.cs_node_lines.specs.declared.asks.ask.Ask.{Ask}
 use Rattle.cs_node_lines.specs.declared.asks.ask.Ask.TheVariants.{Answer, Catch, Dump, OnEdit, Pull, Push, Resend}

@@ -13,7 +13,8 @@ use std::alloc::Global;
 ///
 /// # Errors
 ///
-/// `Line` tells the first line that can't be read, from 1 on; `Read` where the reader failed, or was asked `ASKS` times; `Memory`.
+/// `Line` tells the first line that can't be read, from 1 on; `Read` where the reader failed, or was asked `ASKS` times;
+/// `Memory`.
 pub fn read_asks<R: LineInput>(
     alloc: Global,
     catalog: &Catalog,

@@ -82,16 +82,17 @@ fn follow<S: RowStore, R: LineInput, W: LineOutput>(
     Err(NodeFault::Read)
 }
 
-/// Opens the replica with this id over a store, and works the requests of an input: the text of each and an empty line behind it are printed and
-/// sent before the next is read, and what it commits is committed before. One that can't be read has the text `unread`, also where the input ends
-/// within it, and one for which memory is refused `refused Memory`, with nothing done. What stands behind the last line feed is no line: nothing is
+/// Opens the replica with this id over a store, and works the requests of an input. The text of each and an empty line behind it are
+/// printed and sent before the next is read. What it commits is committed before. One that can't be read has the text `unread`, also
+/// where the input ends within it. One for which memory is refused has `refused Memory`, and nothing of it is done. What stands behind the last line feed is no line: nothing is
 /// done or printed of it. An id is at most 4,294,967,294. The store comes back in any case.
 ///
 /// # Errors
 ///
-/// `Open` and `Memory` where the replica isn't opened: then nothing is read or printed, and the store holds what it held. `Read` where the reader
-/// failed, or `ASKS` requests were worked: then nothing was done of a request that isn't whole. `Write`, and `Memory` for a text, at a request: what
-/// was done stays done, its own step too. `Memory` also where there is none for a request's first line: nothing was done of it.
+/// `Open` and `Memory` where the replica isn't opened: then nothing is read or printed, and the store holds what it held. `Read`
+/// where the reader failed, or `ASKS` requests were worked: then nothing was done of a request that isn't whole. `Write`, and
+/// `Memory` for a text, at a request: what was done stays done, its own step too. `Memory` also where there is none for a
+/// request's first line: nothing was done of it.
 pub fn follow_on<S: RowStore, R: LineInput, W: LineOutput>(
     alloc: Global,
     store: S,

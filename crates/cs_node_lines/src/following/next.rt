@@ -107,8 +107,8 @@ fn next_several<S: RowStore, R: LineInput>(
     }
 }
 
-/// Reads the next request, for which the buffer is used, and works it. Where there is no memory for its first line, nobody knows how many
-/// belong to it.
+/// Reads the next request, for which the buffer is used, and works it. Where there is no memory for its first line, nobody knows
+/// how many belong to it.
 pub(crate) fn next_reply<S: RowStore, R: LineInput>(
     alloc: Global,
     replica: &mut Replica<S>,

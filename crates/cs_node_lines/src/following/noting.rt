@@ -13,8 +13,8 @@ use cs_value::Catalog;
 use std::alloc::Global;
 use std::marker::Model;
 
-/// Wishes, used one a clash as `Wishes` does, which notes the clash at which one stops. Contracts see it as the tables, the wishes that are
-/// left, and the note.
+/// Wishes, used one a clash as `Wishes` does, which notes the clash at which one stops. Contracts see it as the tables, the
+/// wishes that are left, and the note.
 #[derive(Drop)]
 pub(crate) struct Noting<'w> {
     alloc: Global,

@@ -67,7 +67,7 @@ fn put_seen(
     }
 }
 
-/// Takes an answer of the hub, in its bytes, by wishes, and gives what is printed of it, with the clash at which a wish stops.
+/// Takes an answer of the hub, in its bytes, by wishes. It gives what is printed of it, with the clash at which a wish stops.
 ///
 /// # Errors
 ///

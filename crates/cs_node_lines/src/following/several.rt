@@ -91,8 +91,8 @@ fn gather_next<R: LineInput>(
     }
 }
 
-/// Reads so many lines, for which the buffer is used, and gathers the edits that they are; none where the input ends within them. All are
-/// read in any case, since they belong to one request.
+/// Reads so many lines, for which the buffer is used, and gathers the edits that they are; none where the input ends within them.
+/// All are read in any case, since they belong to one request.
 pub(crate) fn gather_lines<R: LineInput>(
     alloc: Global,
     catalog: &Catalog,

@@ -11,8 +11,8 @@ use cs_store::RowStore;
 use cs_value::Catalog;
 use std::alloc::Global;
 
-/// Opens the hub of these tables over a store, and answers each line of the reader, up to its end, by a line of lower case hex. It sends each
-/// answer before it reads on, as `cs_lines::serve_lines` does (runs show when). The store comes back as the answers left it.
+/// Opens the hub of these tables over a store. It answers each line of the reader, up to its end, by a line of lower case hex. It sends
+/// each answer before it reads on, as `cs_lines::serve_lines` does (runs show when). The store comes back as the answers left it.
 ///
 /// # Errors
 ///

@@ -6,8 +6,8 @@ ghost use Rattle.cs_node_lines.specs.told.Told.{told_text};
 use cs_replica::Told;
 use std::fmt;
 
-/// What became of an answer of the hub, at a replica that is at this version then: `accepted V`, `ignored`, `stale N`, `hub refused CODE`,
-/// `taken N version V` or `stopped N version V`.
+/// What became of an answer of the hub, at a replica that is at this version then: `accepted V`, `ignored`, `stale N`,
+/// `hub refused CODE`, `taken N version V` or `stopped N version V`.
 #[derive(Clone, Copy)]
 pub struct ToldText {
     /// What became of it.

@@ -9,7 +9,8 @@ use cs_opening::OpenFault;
 use std::alloc::{AllocError, AllocFailed};
 use thiserror::Error;
 
-/// Why a node ended before it did all that its lines ask. What it did before stays done. The text is what is told of it behind `sync: `.
+/// Why a node ended before it did all that its lines ask. What it did before stays done. The text is what is told of it behind
+/// `sync: `.
 #[derive(Clone, Copy, Debug, PartialEq, Eq, Error)]
 pub enum NodeFault {
     #[error("Memory")]

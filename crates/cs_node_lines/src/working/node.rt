@@ -56,14 +56,14 @@ fn do_asks<S: RowStore, W: LineOutput>(
     Ok(())
 }
 
-/// Opens the replica with this id over a store and does what lines ask, one behind another. The text of each is printed and sent before the
-/// next is worked on, and what it commits is committed before. A failed device is told of a line only where the store's count of failures
-/// rose at it. An id is at most 4,294,967,294. The store comes back in any case.
+/// Opens the replica with this id over a store and does what lines ask, one behind another. The text of each is printed and sent
+/// before the next is worked on, and what it commits is committed before. A failed device is told of a line only where the
+/// store's count of failures rose at it. An id is at most 4,294,967,294. The store comes back in any case.
 ///
 /// # Errors
 ///
-/// `Open` and `Memory` where the replica isn't opened: then nothing is printed, and the store holds what it held. `Write`, and `Memory` for a
-/// text, at a line: what was done stays done, the line's own step too.
+/// `Open` and `Memory` where the replica isn't opened: then nothing is printed, and the store holds what it held. `Write`, and
+/// `Memory` for a text, at a line: what was done stays done, the line's own step too.
 pub fn work_on<S: RowStore, W: LineOutput>(
     alloc: Global,
     store: S,
@@ -92,8 +92,8 @@ pub fn work_on<S: RowStore, W: LineOutput>(
 ///
 /// # Errors
 ///
-/// `Line` tells the first line that can't be read, from 1 on, and `Read` that the reader failed or was asked too often. Then, and where memory
-/// is refused for the lines, the store wasn't touched and nothing is printed. Else those of `work_on`.
+/// `Line` tells the first line that can't be read, from 1 on, and `Read` that the reader failed or was asked too often. Then, and
+/// where memory is refused for the lines, the store wasn't touched and nothing is printed. Else those of `work_on`.
 pub fn node_on<S: RowStore, R: LineInput, W: LineOutput>(
     alloc: Global,
     store: S,

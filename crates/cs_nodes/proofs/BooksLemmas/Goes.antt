@@ -1,12 +1,13 @@
 -- A book that goes on.
 use Rattle.std.proofs.Common.{◌≡◌, ◌⊎◌, ℕ, ◌+◌, ◌<◌, ◌≤◌, List, [], ◌∷◌, ◌++◌, length, take, Some, Result, Ok, Err, slice_get, inl, inr, refl, sym, ap, subst, ◌∙◌, arith, append_assoc, length-append}
+use Rattle.std.proofs.Math.Seq.{take-length}
 use Rattle.std.proofs.lemmas.List.{append-nil, take-append-le, take_more}
 use Rattle.std.proofs.Math.Seq.{take-length}
 use Rattle.std.proofs.lemmas.Option.{get_or_from_slice_get, slice_get_within}
-use Rattle.std.proofs.lemmas.List.Elements.{All-get_or}
 use Rattle.std.specs.Prelude.{All, IfErr, OnErr, OnOk}
 use Rattle.cs_value.specs.declared.catalog.TableDef.{TableDef}
-use Rattle.cs_store.specs.log.Stored.{IsEntryOf}
+use Rattle.cs_store.specs.log.Log.{IsLog, catalog_at, catalog_of}
+use Rattle.cs_store.specs.log.Stored.{AreEntriesOf, IsEntryOf}
 use Rattle.cs_store.specs.declared.log.entry.LogEntry.{LogEntry}
 use Rattle.cs_store.specs.Contents.{Contents}
 use Rattle.cs_store.specs.declared.store.RowStore.{Ghosts}
@@ -46,20 +47,20 @@ next_taken : (known : List LogEntry) (at : ℕ) (entry : LogEntry) → slice_get
 next_taken known at entry here =
     take_more known at entry (slice_get_within known at entry here) ∙ ap (λ (e : LogEntry). take at known ++ e ∷ []) (get_or_from_slice_get known at entry entry here)
 
--- an entry of a log that fits is one of the tables
 at_end : (before : List LogEntry) (entry : LogEntry) → slice_get (before ++ entry ∷ []) (length before) ≡ Some entry
 at_end [] entry = refl
 at_end (first ∷ before) entry = at_end before entry
 
-pub fit_at : (tables : List TableDef) (log : List LogEntry) (at : ℕ) (entry : LogEntry) → All (IsEntryOf tables) log → slice_get log at ≡ Some entry → IsEntryOf tables entry
-fit_at tables log at entry fit here =
-    subst (IsEntryOf tables) (get_or_from_slice_get log at entry entry here) (All-get_or (IsEntryOf tables) log at entry (slice_get_within log at entry here) fit)
+-- the catalog at a version is that behind the entries before it
+pub behind_front : (tables : List TableDef) (log : List LogEntry) (at : ℕ) → catalog_at tables log at ≡ catalog_at tables (take at log) (length (take at log))
+behind_front tables log at = ap (catalog_of tables) (sym (take-length (take at log)))
 
 -- what is appended fits behind the log
 fits_behind : (tables : List TableDef) (log : List LogEntry) (entry : LogEntry) (old left : Contents) → ShowsLog tables old log → IsAppendedIn tables entry old left → FitsBehind tables log entry
 fits_behind tables log entry old left shows appended =
     let is = appended log shows in
-    (fit_at tables (log ++ entry ∷ []) (length log) entry is.1.fit (at_end log entry), is.0)
+    let front : take (length log) (log ++ entry ∷ []) ≡ take (length log) log = take-append-le (length log) log (entry ∷ []) (omega arith) in
+    (subst (λ (l : List LogEntry). IsEntryOf (catalog_of tables l) entry) front (is.1.fit (length log) entry (at_end log entry)), is.0)
 
 -- ---- one step after another
 
@@ -197,6 +198,13 @@ module _ {S : Type 0} (g : Ghosts S) where
   -- what was taken is a log of the tables
   pub has_taken : (book : BookState S) → IsBook g book → g.honest book.hub.store → HasTaken book.hub.catalog book.pass.known book.hub.newest
   has_taken book is h = let shows = is.shows h in record { is_log = shows.0.is_log; fit = shows.0.fit }
+
+  -- also where more is known
+  pub has_taken_longer : (book : BookState S) → IsBook g book → (longer : List LogEntry) → Begins book.pass.known longer → g.honest book.hub.store → HasTaken book.hub.catalog longer book.hub.newest
+  has_taken_longer book is longer begins h =
+      let same = (wider book.pass.known longer begins book.hub.newest is.within).1 in
+      subst (λ (taken : List LogEntry). IsLog book.hub.catalog taken × AreEntriesOf book.hub.catalog taken → HasTaken book.hub.catalog longer book.hub.newest) same
+      (λ front. record { is_log = front.0; fit = front.1 }) ((has_taken book is h).is_log, (has_taken book is h).fit)
 
   module _ (book : BookState S) (is : IsBook g book) (entry : LogEntry) (here : slice_get book.pass.known book.hub.newest ≡ Some entry) (hub : Holding S) (catalog : hub.catalog ≡ book.hub.catalog) where
     abbrev After : BookState S

@@ -86,7 +86,7 @@ module _ {P : Type 0} (picks : P → Clash → Wish → P → Type 0) (laws : Pu
 
     bad_seen : (entry : LogEntry) → IsBad tables position entry view → IsBad tables position entry seen
     bad_seen entry (inl last) = inl last
-    bad_seen entry (inr (others, undefined)) = inr (others, λ defined. undefined (subst (λ (log : State). IsDefinedOn tables (entry_changes entry) log) (sym log_is) defined))
+    bad_seen entry (inr (others, undefined)) = inr (others, λ both. undefined (subst (λ (log : State). IsDefinedOn tables (entry_changes entry) log) (sym log_is) both.0, both.1))
 
     -- a fault of a pull, as a fault of the entry at the version
     pub as_pull_fault : (fault : NodeFault) (entry : LogEntry) (p q : P) → IsOfEntries (Err fault) → IsTakeFault picks tables fault position entry view p q

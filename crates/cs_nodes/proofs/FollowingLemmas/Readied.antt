@@ -34,7 +34,7 @@ same_changes one tables are contents position now changes others view seen made 
     let front = eight_bytes (position.number + 1) in
     let bytes : front ++ normal_spelling others ≡ front ++ normal_spelling changes = same_Some _ _ (sym (held.values Flight) ∙ made.values Flight) in
     let spelled : normal_spelling others ≡ normal_spelling changes = behind_same front (normal_spelling others) (normal_spelling changes) bytes in
-    ap changes_of_body (one tables (Changes others) (Changes changes) are (held.under_way.normal, held.under_way.fits) (made.under_way.normal, made.under_way.fits) (ap (λ (b : List ℕ). 0 ∷ b) spelled))
+    ap changes_of_body (one tables (Changes others) (Changes changes) are (held.under_way.normal, held.under_way.fits) (made.under_way.normal, made.under_way.fits) tt tt (ap (λ (b : List ℕ). 0 ∷ b) spelled))
 
 module _ (one : OneBody) (tables : List TableDef) (are : AreTables tables) (position now : Position) (old new : Contents) (before : View) (changes others : List TableChanges)
     (made : IsPushMade tables position before new changes) (is : now ≡ pushed position others) (seen : View) (shown : ShowsAt tables new now seen) where

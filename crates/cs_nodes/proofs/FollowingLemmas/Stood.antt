@@ -10,11 +10,13 @@ use Rattle.cs_value.specs.Catalog.{AreTables}
 use Rattle.cs_value.specs.Key.{Place}
 use Rattle.cs_value.specs.declared.catalog.TableDef.{TableDef}
 use Rattle.cs_normal.specs.Normal.{IsNormalChangeset}
-use Rattle.cs_normal.specs.State.{AreSame, DefinedIsApplied, IsApplied, IsDefinedOn, State}
+use Rattle.cs_normal.specs.State.{AreSame, DefinedIsApplied, IsApplied, IsDefinedOn, State, left_at}
 use Rattle.cs_normal.specs.declared.normal.TableChanges.{TableChanges}
-use Rattle.cs_store.specs.log.Entry.{entry_changes}
-use Rattle.cs_store.specs.log.Laws.{AppendedIsLog}
-use Rattle.cs_store.specs.log.Log.{IsLog, after_entry, empty_state, state_of, tables_at}
+use Rattle.cs_store.specs.log.Entry.{MayWiden, WidensNone, changes_of_body, entry_changes}
+use Rattle.cs_store.specs.log.Laws.{AppendedIsLog, CatalogStays}
+use Rattle.cs_store.specs.log.Log.{IsLog, after_body, after_entry, empty_state, state_of, tables_at}
+use Rattle.cs_store.specs.declared.log.body.Body.{Body}
+use Rattle.cs_store.specs.declared.log.body.Body.TheVariants.{Changes, Widen}
 use Rattle.cs_store.specs.declared.log.entry.LogEntry.{LogEntry}
 use Rattle.cs_store.specs.declared.store.RowStore.{Ghosts}
 use Rattle.cs_conflict.specs.declared.clash.Clash.{Clash}
@@ -24,7 +26,7 @@ use Rattle.cs_pending.specs.View.{View}
 use Rattle.cs_pending.specs.position.Shows.{ShowsAt, ShowsSomeAt, base}
 use Rattle.cs_pending.specs.declared.position.position.Position.{Position}
 use Rattle.cs_exchange.specs.pulling.Laws.{PulledLeads}
-use Rattle.cs_exchange.specs.pulling.Pulls.{IsBad, IsPulledIn}
+use Rattle.cs_exchange.specs.pulling.Pulls.{IsBad, IsPulledIn, PullsOne}
 use Rattle.cs_replica.specs.Edited.{IsEditedIn, with_pending}
 use Rattle.cs_replica.specs.Holding.{Holding, Shows}
 use Rattle.cs_replica.specs.Laws.{EditStands, KeptStands, StandsLonger}
@@ -54,12 +56,27 @@ applied_there tables changes some other end same applied =
 
 -- ---- after the next entry
 
-pub stood_on : DefinedIsApplied → AppendedIsLog → (tables : List TableDef) (known : List LogEntry) (entry : LogEntry) (position other : Position) (before after : View)
-    → IsNormalChangeset (entry_changes entry) → slice_get known position.version ≡ Some entry
+-- what widens no table may stand anywhere
+may_stay : (tables : List TableDef) (body : Body) → WidensNone body → MayWiden tables body
+may_stay tables (Changes changes) none = tt
+may_stay tables (Widen table width) none = absurd none
+
+-- what was pulled widens none
+pulled_plain : {P : Type 0} (picks : P → Clash → Wish → P → Type 0) (tables : List TableDef) (position : Position) (entry : LogEntry) (before after : View) (p q : P) → PullsOne picks tables position entry before p after q → WidensNone entry.body
+pulled_plain picks tables position entry before after p q (room, inl (own, rows, asked)) = subst WidensNone (sym own.body) tt
+pulled_plain picks tables position entry before after p q (room, inr (others, plain, t)) = plain
+
+-- what widens no table leaves what its changes leave
+plain_after : (state : State) (body : Body) → WidensNone body → (name key : List ℕ) → after_body state body name key ≡ unwrap_or (left_at (changes_of_body body) state name key) (state name key)
+plain_after state (Changes changes) none name key = refl
+plain_after state (Widen table width) none name key = absurd none
+
+pub stood_on : DefinedIsApplied → AppendedIsLog → CatalogStays → (tables : List TableDef) (known : List LogEntry) (entry : LogEntry) (position other : Position) (before after : View)
+    → WidensNone entry.body → IsNormalChangeset (entry_changes entry) → slice_get known position.version ≡ Some entry
     → other.version ≡ position.version + 1 → other.flight ≡ None
     → IsApplied tables (entry_changes entry) (base position.flight before) (base None after)
     → StandsIn tables known position before → StandsIn tables known other after
-stood_on defined appended tables known entry position other before after normal here version flight applied s =
+stood_on defined appended stays tables known entry position other before after none normal here version flight applied s =
     let v = position.version in
     let there = applied_there tables (entry_changes entry) (tables_at known v) (base position.flight before) (base None after) s.stands.on_tables applied in
     let is_defined : IsDefinedOn tables (entry_changes entry) (tables_at known v) = (defined tables (entry_changes entry) (tables_at known v)).1 (base None after, there) in
@@ -67,12 +84,12 @@ stood_on defined appended tables known entry position other before after normal 
       of_catalog = s.of_catalog;
       front = subst (λ (n : ℕ). IsLog tables (take n known)) (sym version)
           (subst (λ (l : List LogEntry). IsLog tables l) (sym (front_more known v entry here))
-          (appended tables (take v known) entry s.front (record { normal = normal; defined = is_defined })));
+          (appended tables (take v known) entry s.front (record { normal = normal; defined = subst (λ (ts : List TableDef). IsDefinedOn ts (entry_changes entry) (tables_at known v)) (sym (stays tables (take v known) (length (take v known)) s.front)) is_defined; widens = may_stay _ entry.body none })));
       stands = record {
         within = omega (arith, version, slice_get_within known v entry here);
         on_tables = λ n k.
             ap (λ (f : Option (List TableChanges)). base f after n k) flight
-            ∙ sym (ap (λ (s : State). s n k) (tables_more known v entry here) ∙ ap (λ (o : Option Place). unwrap_or o (tables_at known v n k)) (there.1 n k))
+            ∙ sym (ap (λ (s : State). s n k) (tables_more known v entry here) ∙ plain_after (tables_at known v) entry.body none n k ∙ ap (λ (o : Option Place). unwrap_or o (tables_at known v n k)) (there.1 n k))
             ∙ ap (λ (u : ℕ). tables_at known u n k) (sym version);
       };
     }
@@ -121,20 +138,20 @@ module _ {S : Type 0} (g : Ghosts S) where
         })
 
     -- the entry at the version was taken
-    pub taken_stands : {P : Type 0} (picks : P → Clash → Wish → P → Type 0) → PulledLeads picks → DefinedIsApplied → AppendedIsLog → (entry : LogEntry) (p q : P)
+    pub taken_stands : {P : Type 0} (picks : P → Clash → Wish → P → Type 0) → PulledLeads picks → DefinedIsApplied → AppendedIsLog → CatalogStays → (entry : LogEntry) (p q : P)
         → IsNormalChangeset (entry_changes entry)
         → slice_get known old.position.version ≡ Some entry
         → (g.honest new.store → IsPulledIn picks old.catalog old.position entry p q (g.contents old.store) (g.contents new.store))
         → new.position ≡ taken old.position new.position.pending
         → (g.honest new.store → ShowsSomeAt old.catalog old.position (g.contents old.store) → new.position.pending ≡ len (g.contents new.store).pending)
         → StandsWhereHonest g known old → StandsWhereHonest g known new
-    taken_stands picks leads defined appended entry p q normal here pulled moved counted stands h =
+    taken_stands picks leads defined appended stays entry p q normal here pulled moved counted stands h =
         let s = stands (was_honest h) in
         let e = pulled h s.0 s.1 in
         let pending = len (g.contents new.store).pending in
         let is : new.position ≡ taken old.position pending = moved ∙ ap (taken old.position) (counted h (s.0, s.1)) in
         same_stands (taken old.position pending) e.0 h is e.1
-        (stood_on defined appended old.catalog known entry old.position (taken old.position pending) s.0 e.0 normal here refl refl
+        (stood_on defined appended stays old.catalog known entry old.position (taken old.position pending) s.0 e.0 (pulled_plain picks old.catalog old.position entry s.0 e.0 p q e.2) normal here refl refl
         (leads old.catalog (g.contents old.store) old.position entry s.0 e.0 p q s.2.of_catalog s.1 e.2) s.2)
 
     -- what is pending was made a push
@@ -160,7 +177,8 @@ bad_there tables known entry position view here short s (inl last) =
 bad_there tables known entry position view here short s (inr (others, undefined)) = record {
   entry = entry;
   here = here;
-  undefined = λ defined. undefined (subst (λ (t : State). IsDefinedOn tables (entry_changes entry) t) (one_state (tables_at known position.version) (base position.flight view) s.stands.on_tables) defined);
+  undefined = λ both.
+      undefined (subst (λ (t : State). IsDefinedOn tables (entry_changes entry) t) (one_state (tables_at known position.version) (base position.flight view) s.stands.on_tables) both.0, both.1);
 }
 
 -- as it is told

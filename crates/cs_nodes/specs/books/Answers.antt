@@ -3,7 +3,7 @@ use Rattle.std.specs.declared.alloc.Global.{Global}
 use Rattle.std.specs.Prelude.{Vec, ◌≡◌, ◌≢◌, ◌⊎◌, ℕ, List, All, length, Result, Ok, Err, Some, slice_get, take}
 use Rattle.cs_value.specs.declared.catalog.TableDef.{TableDef}
 use Rattle.cs_store.specs.log.Log.{IsLog}
-use Rattle.cs_store.specs.log.Stored.{IsEntryOf}
+use Rattle.cs_store.specs.log.Stored.{AreEntriesOf}
 use Rattle.cs_store.specs.declared.log.entry.LogEntry.{LogEntry}
 use Rattle.cs_hub.specs.judgement.Judged.{hub_of}
 use Rattle.cs_hub.specs.declared.judgement.fault.HubFault.TheVariants.{Device}
@@ -14,10 +14,10 @@ use Rattle.cs_hub.specs.Follows.{FitsBehind}
 use Rattle.cs_hub.specs.Refusals.{hub_code}
 use Rattle.cs_hub.specs.Serves.{Serves}
 
--- the first entries that are known, as many as were taken, are a log of the tables
+-- the first entries that are known, as many as were taken, are a log that opened with these tables, and may be stored
 pub record HasTaken (tables : List TableDef) (known : List LogEntry) (taken : ℕ) : Type 0 where
   pub is_log : IsLog tables (take taken known)
-  pub fit : All (IsEntryOf tables) (take taken known)
+  pub fit : AreEntriesOf tables (take taken known)
 
 -- the next entry doesn't fit behind those that were taken. It isn't one of the tables, or is larger than one may be, or a change of it
 -- isn't defined on the tables there

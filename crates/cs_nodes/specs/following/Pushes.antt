@@ -5,7 +5,7 @@ use Rattle.cs_value.specs.declared.catalog.TableDef.{TableDef}
 use Rattle.cs_normal.specs.State.{IsDefinedOn}
 use Rattle.cs_normal.specs.declared.normal.TableChanges.{TableChanges}
 use Rattle.cs_store.specs.log.Entry.{entry_changes}
-use Rattle.cs_store.specs.log.Log.{catalog_at, tables_at}
+use Rattle.cs_store.specs.log.Log.{tables_at}
 use Rattle.cs_store.specs.declared.log.entry.LogEntry.{LogEntry}
 use Rattle.cs_store.specs.Contents.{Contents}
 use Rattle.cs_conflict.specs.declared.clash.Clash.{Clash}
@@ -65,7 +65,7 @@ module _ {P : Type 0} (picks : P → Clash → Wish → P → Type 0) (tables : 
     pub view : View
     pub readied : IsReady tables position before ready view
     pub flight : flight_entry ready ≡ Some mine
-    pub defined : IsDefinedOn (catalog_at tables known position.version) (entry_changes mine) (tables_at known position.version)
+    pub defined : IsDefinedOn tables (entry_changes mine) (tables_at known position.version)
     pub holds : learned ≡ known ++ entry ∷ []
     pub after : View
     pub pulls : PullsOne picks tables ready entry view p after q

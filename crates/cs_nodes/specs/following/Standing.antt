@@ -3,8 +3,8 @@ use Rattle.std.specs.Prelude.{◌≡◌, List, ◌++◌, Some, slice_get, take}
 use Rattle.cs_value.specs.Catalog.{AreTables}
 use Rattle.cs_value.specs.declared.catalog.TableDef.{TableDef}
 use Rattle.cs_normal.specs.State.{IsDefinedOn}
-use Rattle.cs_store.specs.log.Entry.{entry_changes}
-use Rattle.cs_store.specs.log.Log.{IsLog, catalog_at, tables_at}
+use Rattle.cs_store.specs.log.Entry.{MayWiden, entry_changes}
+use Rattle.cs_store.specs.log.Log.{IsLog, tables_at}
 use Rattle.cs_store.specs.declared.log.entry.LogEntry.{LogEntry}
 use Rattle.cs_store.specs.declared.store.RowStore.{Ghosts}
 use Rattle.cs_pending.specs.View.{View}
@@ -28,8 +28,8 @@ abbrev pub StandsWhereHonest : {S : Type 0} → Ghosts S → List LogEntry → H
 StandsWhereHonest g known held =
     g.honest held.store → (view : View) × Shows g.contents held view × StandsIn held.catalog known held.position view
 
--- the entry at a version is not defined on the tables that those before it make
+-- the entry at a version is not defined on the tables that those before it make, or may not widen one of the catalog so
 pub record IsBadAt (tables : List TableDef) (known : List LogEntry) (version : _) : Type 0 where
   pub entry : LogEntry
   pub here : slice_get known version ≡ Some entry
-  pub undefined : IsDefinedOn (catalog_at tables known version) (entry_changes entry) (tables_at known version) → ⊥
+  pub undefined : IsDefinedOn tables (entry_changes entry) (tables_at known version) × MayWiden tables entry.body → ⊥

@@ -2,6 +2,7 @@
 
 ghost use Rattle.std.specs.Prelude.{◌≡◌, ◌≢◌, ◌+◌, ◌≤◌, ◌<◌, ◌^◌, List, Ok, Err, IfErr, IfOk, IsOk, OnErr, OnOk, Some, length, slice_get};
 ghost use Rattle.std.specs.FinMap.{len};
+ghost use Rattle.cs_normal.specs.Normal.{IsNormalChangeset};
 ghost use Rattle.cs_store.specs.log.Entry.{entry_changes};
 ghost use Rattle.cs_store.specs.declared.log.entry.LogEntry.{LogEntry as Entry};
 ghost use Rattle.cs_pending.specs.Calls.{WritesStore};
@@ -17,19 +18,18 @@ ghost use Rattle.cs_nodes.specs.declared.following.fault.NodeFault.TheVariants.{
 
 use crate::following::fault::{NodeFault, pull_fault};
 use cs_conflict::Picker;
-use cs_normal::Normal;
 use cs_replica::Replica;
 use cs_spine::{Pass, Spine};
 use cs_store::RowStore;
-use cs_store::log::{Body, LogEntry};
+use cs_store::log::LogEntry;
 use std::alloc::Global;
 
-/// The changeset of an entry.
-fn changeset(entry: &LogEntry) -> &Normal
-    ensures { result.now ≡ entry_changes entry.now }
+/// What an entry changes is in normal form, also where it changes nothing.
+fn normal_changes(entry: &LogEntry)
+    ensures { IsNormalChangeset (entry_changes entry.now) }
 {
-    match &entry.body {
-        Body::Changes(changes) => changes,
+    if let Some(changes) = entry.body.changes() {
+        let _changes = changes.tables();
     }
 }
 
@@ -94,7 +94,8 @@ pub(crate) fn take_standing<S: RowStore, P: Picker>(
     cs_exchange::pulling::laws::pulled_leads(&*picker);
     cs_normal::laws::defined_is_applied();
     cs_store::log::laws::appended_is_log();
-    let _changes = changeset(entry).tables();
+    normal_changes(entry);
+    cs_store::log::laws::catalog_stays();
     match take_next(alloc, replica, entry, picker) {
         Ok(()) => Ok(()),
         Err(fault) => Err(fault),

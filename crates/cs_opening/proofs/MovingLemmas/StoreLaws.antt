@@ -29,7 +29,7 @@ pub one_value : OneBody → OneValue
 one_value law tables contents some other are s o =
     let same : s.bytes ≡ o.bytes = same_Some s.bytes o.bytes (sym s.there ∙ o.there) in
     let bodies : Changes some ≡ Changes other =
-    law tables (Changes some) (Changes other) are (s.value.normal, s.value.fits) (o.value.normal, o.value.fits)
+    law tables (Changes some) (Changes other) are (s.value.normal, s.value.fits) (o.value.normal, o.value.fits) tt tt
     (ap (λ (bytes : List ℕ). 0 ∷ bytes) (sym s.value.spelled ∙ same ∙ o.value.spelled)) in
     ap changes_of_body bodies
 

@@ -1,28 +1,20 @@
 -- A replica's store that keeps what is pending as one value, and what it holds once the value is moved: each change at its place
-use Rattle.std.specs.Prelude.{◌≡◌, ◌≤◌, ◌⊎◌, ℕ, pos, List, length, map, fold, Some}
+use Rattle.std.specs.Prelude.{◌≡◌, ◌⊎◌, ℕ, pos, List, map, fold, Some}
 use Rattle.std.specs.FinMap.{empty, insert, remove}
 use Rattle.cs_value.specs.declared.catalog.TableDef.{TableDef}
 use Rattle.cs_change.specs.Spelling.{change_spelling}
-use Rattle.cs_normal.specs.Normal.{FitsCatalog, IsNormalChangeset, normal_spelling}
 use Rattle.cs_normal.specs.declared.normal.TableChanges.{TableChanges}
 use Rattle.cs_apply.specs.NormalTasks.{keyed_tasks}
-use Rattle.cs_store.specs.declared.log.entry.TheConstants.{MAX_CHANGESET}
 use Rattle.cs_store.specs.Contents.{Bodies, Contents, StorePlace, meta_value, name_text}
 use Rattle.cs_store.specs.declared.names.MetaName.TheVariants.{Pending}
 use Rattle.cs_pending.specs.declared.position.position.Position.{Position}
 use Rattle.cs_opening.specs.Fresh.{IsSameOrFirst}
+use Rattle.cs_opening.specs.Kept.{IsPendingValue}
 use Rattle.cs_opening.specs.Opens.{IsOpenFault, IsReplicaAt, StandsAt}
 use Rattle.cs_opening.specs.declared.fault.OpenFault.{OpenFault}
 use Rattle.cs_opening.specs.declared.fault.OpenFault.TheVariants.{Memory, Damaged, Device, Mismatch}
 
 -- ---- the value, and where it is moved to
-
--- the bytes are these changes: a normal changeset of the tables that a push can carry
-pub record IsPendingValue (tables : List TableDef) (bytes : List ℕ) (changes : List TableChanges) : Type 0 where
-  pub fits : FitsCatalog tables changes
-  pub normal : IsNormalChangeset changes
-  pub size : length (normal_spelling changes) ≤ MAX_CHANGESET
-  pub spelled : bytes ≡ normal_spelling changes
 
 -- contents keep these changes as their value `pending`, and no change at a place
 pub record KeepsValue (tables : List TableDef) (contents : Contents) (changes : List TableChanges) : Type 0 where

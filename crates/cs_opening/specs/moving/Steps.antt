@@ -11,7 +11,8 @@ use Rattle.cs_store.specs.edits.Edits.{BodyEdit}
 use Rattle.cs_store.specs.declared.names.MetaName.TheVariants.{Id, Pending}
 use Rattle.cs_pending.specs.declared.position.position.Position.{Position}
 use Rattle.cs_opening.specs.Opens.{StandsAt}
-use Rattle.cs_opening.specs.moving.Moved.{IsPendingValue, KeepsValue, moved}
+use Rattle.cs_opening.specs.Kept.{IsPendingValue}
+use Rattle.cs_opening.specs.moving.Moved.{KeepsValue, moved}
 
 -- where an edit is, and what it leaves there
 abbrev pub edit_parts : BodyEdit → StorePlace × Option (List ℕ)

@@ -18,7 +18,7 @@ ghost use Rattle.cs_opening.specs.declared.fault.OpenFault.{OpenFault as Fault};
 
 use crate::copying::copy_of;
 use crate::moving::edits::moving_batch;
-use crate::moving::value::value_in;
+use crate::values::value_in;
 use crate::{OpenFault, open_at};
 use cs_map_store::MapStore;
 use cs_normal::Normal;

@@ -32,7 +32,7 @@ one_flight law tables are m n (Some a) None s o e = absurd cc
 one_flight law tables are m n (Some a) (Some b) s o e =
     let bytes : flight_bytes m a ≡ flight_bytes n b = same_Some _ _ e in
     let spelled : normal_spelling a ≡ normal_spelling b = sym (eight_rest m (normal_spelling a)) ∙ ap (drop 8) bytes ∙ eight_rest n (normal_spelling b) in
-    ap Some (ap changes_of_body (law tables (Changes a) (Changes b) are s o (ap (λ (t : List ℕ). 0 ∷ t) spelled)))
+    ap Some (ap changes_of_body (law tables (Changes a) (Changes b) are s o tt tt (ap (λ (t : List ℕ). 0 ∷ t) spelled)))
 
 made : ℕ → ℕ → ℕ → Option (List TableChanges) → ℕ → Position
 made id version number flight pending = record { id = id; version = version; number = number; flight = flight; pending = pending }

@@ -1,7 +1,6 @@
 //! What is pending, as the changeset of a push.
 
 ghost use Rattle.std.specs.Prelude.{◌≡◌, ◌≤◌, ◌∷◌, List, length, Some, IfOk};
-ghost use Rattle.cs_store.specs.log.Entry.{changes_of_body};
 ghost use Rattle.cs_store.specs.declared.log.entry.TheConstants.{MAX_CHANGESET as MOST_BYTES};
 ghost use Rattle.cs_normal.specs.Normal.{FitsCatalog, IsNormalChangeset, normal_spelling};
 ghost use Rattle.cs_normal.specs.declared.normal.TableChanges.{TableChanges};
@@ -13,7 +12,7 @@ ghost use Rattle.cs_pending.specs.outgoing.Outgoing.{IsOutgoing};
 
 use crate::outgoing::putting::put_tables;
 use cs_normal::Normal;
-use cs_store::log::{Body, BodyFault, MAX_CHANGESET, read_body};
+use cs_store::log::{BodyFault, MAX_CHANGESET, read_changes};
 use cs_store::{RowStore, StoreFault};
 use cs_value::{Catalog, Memory};
 use std::alloc::{AllocError, Global};
@@ -29,23 +28,13 @@ pub enum Outgoing {
     Changes(Normal),
 }
 
-/// The changes that a body has.
-fn changes_of(body: Body) -> Normal
-    ensures { result ≡ changes_of_body body }
-{
-    match body {
-        Body::Changes(changes) => changes,
-    }
-}
-
-/// The changes that are stored as these bytes, if they are those of a body.
+/// The changes that these bytes spell, if they are a changeset of the tables in normal form.
 fn changes_in(alloc: Global, catalog: &Catalog, bytes: &[u8]) -> Result<Option<Normal>, Memory>
     ensures { (changes : List TableChanges) → IsNormalChangeset changes → FitsCatalog catalog.now changes
-        → length (normal_spelling changes) ≤ MOST_BYTES → bytes.now ≡ 0 ∷ normal_spelling changes
-        → IfOk result (λ read. read ≡ Some changes) }
+        → bytes.now ≡ normal_spelling changes → IfOk result (λ read. read ≡ Some changes) }
 {
-    match read_body(alloc, catalog, bytes) {
-        Ok(body) => Ok(Some(changes_of(body))),
+    match read_changes(alloc, catalog, bytes) {
+        Ok(changes) => Ok(Some(changes)),
         Err(BodyFault::NoBody) => Ok(None),
         Err(BodyFault::Memory) => Err(AllocError),
     }
@@ -72,17 +61,16 @@ pub fn gather<S: RowStore>(
     cs_normal::laws::catalog_is_apart();
     cs_normal::laws::fitting_is_normal();
     cs_change::laws::net_takes();
-    // The kind of a body that has changes.
-    let mut bytes = vec![in alloc; 0]?;
+    let mut bytes = Vec::new(alloc);
     match put_tables(alloc, store, catalog.tables(), 0, &mut bytes) {
         Ok(()) => {}
         Err(fault) => return Err(fault),
     }
     let written = bytes.as_slice();
-    if written.len() == 1 {
+    if written.is_empty() {
         return Ok(Outgoing::Nothing);
     }
-    if written.len() as u64 > MAX_CHANGESET + 1 {
+    if written.len() as u64 > MAX_CHANGESET {
         return Ok(Outgoing::TooLarge);
     }
     let Some(changes) = changes_in(alloc, catalog, written)? else {

@@ -1,7 +1,9 @@
-//! Entries before and behind the version: nobody is asked, and nothing changes.
+//! Entries before and behind the version, and one that widens a table: nobody is asked, and nothing changes.
 
 use crate::given::*;
 use cs_conflict::Wish;
+use cs_store::log::{Body, LogEntry};
+use cs_value::Text;
 use std::alloc::Global;
 
 /// The row (2, 'v2') of the log, and the own row (1, 'v1').
@@ -22,10 +24,32 @@ const OWN_ROW: Shown = Shown {
 
 const ROW_2: Parts = &[&H1, &INSERT, &K2, &V2];
 
-/// Whether another's entry with this index is refused so behind these rows of the log and the own row, which stay.
-fn is_refused(alloc: Global, base: Parts, index: u64, name: &str, shown: &Shown) -> Option<bool> {
+/// Another's entry, which inserts the row (1, 'v2').
+fn inserting(alloc: Global) -> Option<LogEntry> {
+    entry(alloc, 9, &[&H1, &INSERT, &K1, &V2])
+}
+
+/// Another's entry, which widens the table to three columns.
+fn widening(alloc: Global) -> Option<LogEntry> {
+    let table = Text::from_string(String::from_str(alloc, "t1").ok()?);
+    Some(LogEntry {
+        origin: 9,
+        number: 1,
+        body: Body::Widen { table, width: 3 },
+    })
+}
+
+/// Whether the entry with this index is refused so behind these rows of the log and the own row, which stay.
+fn is_refused(
+    alloc: Global,
+    base: Parts,
+    index: u64,
+    entry: Option<LogEntry>,
+    name: &str,
+    shown: &Shown,
+) -> Option<bool> {
     let mut replica = flying(alloc, base, &[], &[Edit::Insert(1, "v1")])?;
-    let entry = entry(alloc, 9, &[&H1, &INSERT, &K1, &V2])?;
+    let entry = entry?;
     let version = replica.version();
     let mut kinds = [0; 6];
     let wishes = [Wish::Keep];
@@ -39,7 +63,16 @@ fn is_refused(alloc: Global, base: Parts, index: u64, name: &str, shown: &Shown)
 #[test]
 fn entries_out_of_turn_are_refused(rt: HostRuntime) {
     let alloc = rt.alloc();
-    assert!(rt; is_refused(alloc, ROW_2, 0, "Behind", &BOTH_ROWS).unwrap_or(false));
-    assert!(rt; is_refused(alloc, ROW_2, 2, "Gap", &BOTH_ROWS).unwrap_or(false));
-    assert!(rt; is_refused(alloc, &[], 1, "Gap", &OWN_ROW).unwrap_or(false));
+    assert!(rt;
+        is_refused(alloc, ROW_2, 0, inserting(alloc), "Behind", &BOTH_ROWS).unwrap_or(false)
+    );
+    assert!(rt; is_refused(alloc, ROW_2, 2, inserting(alloc), "Gap", &BOTH_ROWS).unwrap_or(false));
+    assert!(rt; is_refused(alloc, &[], 1, inserting(alloc), "Gap", &OWN_ROW).unwrap_or(false));
+}
+
+#[test]
+fn an_entry_that_widens_is_refused(rt: HostRuntime) {
+    let alloc = rt.alloc();
+    let is_bad = is_refused(alloc, &[], 0, widening(alloc), "BadEntry", &OWN_ROW);
+    assert!(rt; is_bad.unwrap_or(false));
 }

@@ -3,7 +3,7 @@ use Rattle.std.proofs.Common.{◌≡◌, ◌⊎◌, inl, inr, ℕ, zero, suc, �
 use Rattle.std.proofs.lemmas.List.{take-append-le}
 use Rattle.std.proofs.lemmas.Option.{slice_get_within}
 use Rattle.cs_store.specs.log.Laws.{AppendedIsLog, EmptyIsLog, FrontIsLog, LongerLog}
-use Rattle.cs_store.specs.log.Log.{IsNextEntry, state_of}
+use Rattle.cs_store.specs.log.Log.{IsNextEntry, catalog_of, state_of}
 use Rattle.cs_store.specs.declared.log.entry.LogEntry.{LogEntry}
 
 -- an entry of the longer log stands where it stood, or is the last
@@ -45,4 +45,5 @@ front_is_log opening log more each place entry there =
     subst (λ (l : List LogEntry). IsNextEntry opening l entry) (take_front log more place (omega (arith, within))) (each place entry (in_front log more place entry there))
 
 pub longer_log : LongerLog
-longer_log opening log more version within = (refl, ap state_of (take_front log more version within))
+longer_log opening log more version within =
+    (ap (catalog_of opening) (take_front log more version within), ap state_of (take_front log more version within))

@@ -244,4 +244,4 @@ all_tables fitting tables left_tables bytes left are so_far none =
 
 pub stored_seen : (tables : List TableDef) (bytes changeset : List ℕ) → bytes ≡ 0 ∷ changeset → length changeset ≤ MAX_CHANGESET → SpellsChanges tables changeset → IsStoredBody tables bytes
 stored_seen tables bytes changeset is short (changes, are, spelled) =
-    (with_changes changes, record { changes = are; size = subst (λ (bs : List ℕ). length bs ≤ MAX_CHANGESET) spelled short }, is ∙ ap (λ (bs : List ℕ). 0 ∷ bs) spelled)
+    (with_changes changes, record { changes = are; widens = tt; size = subst (λ (bs : List ℕ). length bs ≤ MAX_CHANGESET) spelled short }, is ∙ ap (λ (bs : List ℕ). 0 ∷ bs) spelled)

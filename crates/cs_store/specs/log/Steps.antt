@@ -1,7 +1,8 @@
 -- What the code holds on the way to whether bytes are a stored body: no definition that a public clause cites.
-use Rattle.std.specs.Prelude.{◌≡◌, ◌≢◌, ℕ, ◌<◌, Bool, true, List, [], ◌∷◌, ◌++◌, map}
+use Rattle.std.specs.Prelude.{◌≡◌, ◌≢◌, ℕ, ◌<◌, ◌≤◌, Bool, true, List, [], ◌∷◌, ◌++◌, length, map, Result, Ok, Err}
 use Rattle.std.specs.List.{flat_map}
 use Rattle.std.specs.declared.cmp.Ordering.TheVariants.{Less}
+use Rattle.cs_value.specs.Catalog.{max_columns}
 use Rattle.cs_value.specs.declared.catalog.TableDef.{TableDef}
 use Rattle.cs_change.specs.declared.change.Change.{Change}
 use Rattle.cs_change.specs.Spelling.{FitsChange, change_spelling, flag_byte}
@@ -11,7 +12,12 @@ use Rattle.cs_normal.specs.keyed.Changes.{AreNormal, Changes, IsEntry}
 use Rattle.cs_normal.specs.keyed.NormalForm.{change_bytes, has_key}
 use Rattle.cs_normal.specs.Normal.{FitsCatalog, IsNormalTable, normal_spelling, table_spelling}
 use Rattle.cs_normal.specs.declared.normal.TableChanges.{TableChanges}
+use Rattle.cs_store.specs.log.Entry.{MayWiden, widen_spelling, widening_is_on}
 use Rattle.cs_store.specs.log.Stored.{AreChangesOf}
+use Rattle.cs_store.specs.declared.log.body.Body.{Body}
+use Rattle.cs_store.specs.declared.log.body.Body.TheVariants.{Widen}
+use Rattle.cs_store.specs.declared.log.fault.BodyFault.{BodyFault}
+use Rattle.cs_store.specs.declared.log.fault.BodyFault.TheVariants.{Memory, NoBody}
 
 -- how the changes of a table are written
 abbrev pub changes_bytes : Changes → List ℕ
@@ -64,3 +70,16 @@ pub record IsNextTable (tables more : List TableDef) (bytes rest : List ℕ) : T
 abbrev pub SpellsChanges : List TableDef → List ℕ → Type 0
 SpellsChanges tables bytes =
     (changes : List TableChanges) × AreChangesOf tables changes × (bytes ≡ normal_spelling changes)
+
+-- the table has the name and may be widened to so many columns
+abbrev pub WidensTable : List ℕ → ℕ → TableDef → Type 0
+WidensTable name width table =
+    (widening_is_on ≡ true) × (table.name ≡ name) × (length table.key_marks < width) × (width ≤ max_columns)
+
+-- what reading a table and its columns gives
+abbrev pub ReadsWiden : List TableDef → List ℕ → Result Body BodyFault → Type 0
+ReadsWiden tables bytes (Ok body) =
+    (table : List ℕ) × (width : ℕ) × (body ≡ Widen table width) × MayWiden tables body × (bytes ≡ widen_spelling table width)
+ReadsWiden tables bytes (Err Memory) = Unit {0}
+ReadsWiden tables bytes (Err NoBody) =
+    (table : List ℕ) (width : ℕ) → MayWiden tables (Widen table width) → bytes ≡ widen_spelling table width → ⊥

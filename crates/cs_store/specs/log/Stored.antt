@@ -1,5 +1,5 @@
 -- What an entry does as it is stored, and what reading that gives.
-use Rattle.std.specs.Prelude.{◌≡◌, ℕ, ◌≤◌, List, ◌∷◌, length, Result, Ok, Err}
+use Rattle.std.specs.Prelude.{◌≡◌, ℕ, ◌≤◌, List, ◌∷◌, length, slice_get, Some, Result, Ok, Err}
 use Rattle.cs_value.specs.declared.catalog.TableDef.{TableDef}
 use Rattle.cs_changeset.specs.declared.fault.CodecFault.{CodecFault}
 use Rattle.cs_changeset.specs.declared.fault.CodecFault.TheVariants as codec
@@ -7,7 +7,8 @@ use Rattle.cs_normal.specs.Normal.{FitsCatalog, IsNormalChangeset, normal_spelli
 use Rattle.cs_normal.specs.declared.normal.TableChanges.{TableChanges}
 use Rattle.cs_normalising.specs.declared.unfit.Unfit.{Unfit}
 use Rattle.cs_normalising.specs.declared.unfit.Unfit.TheVariants as unfit
-use Rattle.cs_store.specs.log.Entry.{body_spelling, changes_of_body, kind_of}
+use Rattle.cs_store.specs.log.Entry.{MayWiden, body_spelling, changes_of_body, kind_of}
+use Rattle.cs_store.specs.log.Log.{catalog_at}
 use Rattle.cs_store.specs.declared.log.body.Body.{Body}
 use Rattle.cs_store.specs.declared.log.entry.LogEntry.{LogEntry}
 use Rattle.cs_store.specs.declared.log.entry.TheConstants.{MAX_CHANGESET}
@@ -29,6 +30,7 @@ AreChangesOf tables changes = IsNormalChangeset changes × FitsCatalog tables ch
 -- a body of these tables that may be stored
 pub record FitsBody (tables : List TableDef) (body : Body) : Type 0 where
   pub changes : AreChangesOf tables (changes_of_body body)
+  pub widens : MayWiden tables body
   pub size : IsWithinBound body
 
 -- the bytes are those that a body of these tables is stored as
@@ -38,6 +40,11 @@ IsStoredBody tables bytes = (body : Body) × FitsBody tables body × (bytes ≡ 
 -- an entry of these tables that may be stored
 abbrev pub IsEntryOf : List TableDef → LogEntry → Type 0
 IsEntryOf tables entry = FitsBody tables entry.body
+
+-- each entry of a log that opened with these tables may be stored, by the catalog at its version
+abbrev pub AreEntriesOf : List TableDef → List LogEntry → Type 0
+AreEntriesOf opening log =
+    (version : ℕ) (entry : LogEntry) → slice_get log version ≡ Some entry → IsEntryOf (catalog_at opening log version) entry
 
 -- the body that fits these tables and is stored as these bytes, or that there is none; want of memory says nothing
 abbrev pub ReadsBody : List TableDef → List ℕ → Result Body BodyFault → Type 0

@@ -1,8 +1,12 @@
 //! What an entry of the log does, and how that is stored.
 
-ghost use Rattle.std.specs.Prelude.{◌≡◌, ◌⊎◌, ◌↔◌, ◌++◌, List, Ok, Err, IsTrue, IfOk, OnOk, OnErr};
+ghost use Rattle.std.specs.Prelude.{◌≡◌, ◌⊎◌, ◌<◌, ◌↔◌, ◌++◌, List, All, HoldsAt, length, Ok, Err, IsTrue, IfOk, MatchOption, OnOk, OnErr};
 ghost use Rattle.cs_normal.specs.Normal.{normal_spelling};
-ghost use Rattle.cs_store.specs.log.Stored.{FitsBody, ReadsBody, ReadsChanges, stored_body};
+ghost use Rattle.cs_normal.specs.declared.normal.TableChanges.{TableChanges};
+ghost use Rattle.cs_store.specs.log.Entry.{widen_spelling};
+ghost use Rattle.cs_store.specs.log.Entry.{widening_is_on as MayBeWidened};
+ghost use Rattle.cs_store.specs.log.Steps.{ReadsWiden, WidensTable};
+ghost use Rattle.cs_store.specs.log.Stored.{AreChangesOf, FitsBody, ReadsBody, ReadsChanges, stored_body};
 ghost use Rattle.cs_store.specs.declared.log.body.Body.{Body};
 ghost use Rattle.cs_store.specs.declared.log.fault.BodyFault.TheVariants.{Memory as OutOfMemory};
 
@@ -14,22 +18,42 @@ use cs_normal::Normal;
 use cs_normal::laws::normal_is_taken;
 use cs_normalising::laws::{no_fault_where_fit, normal_again, one_normal_form};
 use cs_normalising::normalise;
-use cs_value::{Catalog, Memory};
+use cs_value::{Catalog, MAX_COLUMNS, Memory, TableDef, Text};
 use std::alloc::Global;
 
 /// The kind of a body that has changes: the first byte of what an entry does, as a log is stored.
 pub(crate) const CHANGES: u8 = 0;
+
+/// The kind of a body that widens a table.
+const WIDEN: u8 = 1;
 
 /// What an entry of the log does.
 #[derive(Drop)]
 pub enum Body {
     /// The changeset of a push, in normal form.
     Changes(Normal),
+    /// The table with this name gets so many columns in all: each of its rows has NULL in the new ones.
+    Widen { table: Text, width: u32 },
+}
+
+/// Appends a number of columns in four bytes, the high byte first, and the name of a table. An `Err` changes nothing.
+fn put_widen(table: &str, width: u32, out: &mut Vec<u8>) -> Result<(), Memory>
+    ensures ok { OnOk result (out.new.items ≡ out.old.items ++ widen_spelling table.now width) }
+    ensures err { OnErr result (out.new.items ≡ out.old.items) }
+{
+    let len = out.len();
+    out.extend_from_slice(&width.to_be_bytes())?;
+    let written = out.extend_from_slice(table.as_bytes());
+    if written.is_err() {
+        out.truncate(len);
+    }
+    written
 }
 
 impl Body {
-    ghost use Rattle.std.specs.Prelude.{◌≡◌, ◌↔◌, ◌++◌, IsTrue, IfOk, OnOk, OnErr};
-    ghost use Rattle.cs_store.specs.log.Entry.{body_spelling, kind_of};
+    ghost use Rattle.std.specs.Prelude.{◌≡◌, ◌↔◌, ◌++◌, IsTrue, IfOk, MatchOption, OnOk, OnErr};
+    ghost use Rattle.cs_store.specs.log.Entry.{WidensNone, body_spelling, kind_of};
+    ghost use Rattle.cs_store.specs.declared.log.body.Body.TheVariants.{Changes as ChangesOf};
 
     /// The byte that tells the kind of body.
     pub fn kind(&self) -> u8
@@ -37,6 +61,17 @@ impl Body {
     {
         match self {
             Body::Changes(_) => CHANGES,
+            Body::Widen { .. } => WIDEN,
+        }
+    }
+
+    /// The changeset, where it has one.
+    pub fn changes(&self) -> Option<&Normal>
+        ensures { MatchOption result (WidensNone self.now → ⊥) (λ changes. self.now ≡ ChangesOf changes.now) }
+    {
+        match self {
+            Body::Changes(changes) => Some(changes),
+            Body::Widen { .. } => None,
         }
     }
 
@@ -47,6 +82,7 @@ impl Body {
     {
         match self {
             Body::Changes(changes) => changes.encode(out),
+            Body::Widen { table, width } => put_widen(table.as_str(), *width, out),
         }
     }
 
@@ -56,6 +92,14 @@ impl Body {
     {
         match (self, other) {
             (Body::Changes(changes), Body::Changes(others)) => changes.same(others),
+            (
+                Body::Widen { table, width },
+                Body::Widen {
+                    table: other,
+                    width: columns,
+                },
+            ) => *width == *columns && table.as_str() == other.as_str(),
+            _ => false,
         }
     }
 
@@ -65,6 +109,10 @@ impl Body {
     {
         match self {
             Body::Changes(changes) => Ok(Body::Changes(changes.copy(alloc)?)),
+            Body::Widen { table, width } => Ok(Body::Widen {
+                table: table.copy(alloc)?,
+                width: *width,
+            }),
         }
     }
 }
@@ -92,9 +140,18 @@ fn is_spelled(alloc: Global, changes: &Normal, bytes: &[u8]) -> Result<bool, Mem
     Ok(spelled.as_slice() == bytes)
 }
 
-/// The changeset of the catalog's tables in normal form that the bytes spell.
-fn read_changes(alloc: Global, catalog: &Catalog, bytes: &[u8]) -> Result<Normal, BodyFault>
-    ensures { ReadsChanges catalog.now bytes.now result }
+/// Reads a changeset of the catalog's tables in normal form: the whole of the bytes, of any number.
+///
+/// # Errors
+///
+/// `NoBody` exactly where no such changeset is spelled so; `Memory` where memory was refused.
+pub fn read_changes(alloc: Global, catalog: &Catalog, bytes: &[u8]) -> Result<Normal, BodyFault>
+    // What is read is spelled so; where the bytes are refused, no changeset of the tables is.
+    ensures reads { ReadsChanges catalog.now bytes.now result }
+
+    // A changeset of the tables that is spelled so is read, or memory is wanting.
+    ensures only { (changes : List TableChanges) → AreChangesOf catalog.now changes → bytes.now ≡ normal_spelling changes
+        → (result ≡ Ok changes) ⊎ (result ≡ Err OutOfMemory) }
 {
     cs_changeset::laws::changesets();
     normal_is_taken();
@@ -108,6 +165,50 @@ fn read_changes(alloc: Global, catalog: &Catalog, bytes: &[u8]) -> Result<Normal
         return Err(BodyFault::NoBody);
     }
     Ok(changes)
+}
+
+/// Whether an entry may widen a table. None may yet: what stands above does not take one.
+fn widening_is_on() -> bool
+    ensures { result ≡ MayBeWidened }
+{
+    false
+}
+
+/// The number in the first four bytes, the high byte first, and the rest.
+fn split_width(bytes: &[u8]) -> Option<(u32, &[u8])>
+    ensures { MatchOption result (length bytes.now < 4) (λ split. bytes.now ≡ widen_spelling split.1.now split.0) }
+{
+    let (front, rest) = bytes.split_first_chunk::<4>()?;
+    Some((u32::from_be_bytes(*front), rest))
+}
+
+/// The place of the table that has the name, and may be widened to so many columns.
+fn find_narrow(tables: &[TableDef], name: &[u8], width: usize) -> Option<usize>
+    ensures { MatchOption result (All (λ table. WidensTable name.now width table → ⊥) tables.now)
+        (λ place. (place < length tables.now) × HoldsAt (WidensTable name.now width) tables.now place) }
+{
+    let is_on = widening_is_on();
+    tables.iter().position(|table| {
+        is_on
+            && table.name.as_str().as_bytes() == name
+            && table.key_marks.as_slice().len() < width
+            && width <= MAX_COLUMNS
+    })
+}
+
+/// The table that gets more columns, and how many it then has.
+fn read_widen(alloc: Global, catalog: &Catalog, bytes: &[u8]) -> Result<Body, BodyFault>
+    ensures { ReadsWiden catalog.now bytes.now result }
+{
+    let tables = catalog.tables();
+    let Some((width, name)) = split_width(bytes) else {
+        return Err(BodyFault::NoBody);
+    };
+    let Some(place) = find_narrow(tables, name, width as usize) else {
+        return Err(BodyFault::NoBody);
+    };
+    let table = tables[place].name.copy(alloc)?;
+    Ok(Body::Widen { table, width })
 }
 
 /// Reads a body as it is stored: the whole of the bytes. Bytes that spell a changeset which isn't in normal form, or
@@ -126,12 +227,15 @@ pub fn read_body(alloc: Global, catalog: &Catalog, bytes: &[u8]) -> Result<Body,
 {
     let _ = catalog.tables();
     one_body();
-    let Some((kind, changeset)) = bytes.split_first() else {
+    let Some((kind, rest)) = bytes.split_first() else {
         return Err(BodyFault::NoBody);
     };
-    if *kind != CHANGES || changeset.len() as u64 > MAX_CHANGESET {
+    if rest.len() as u64 > MAX_CHANGESET {
         return Err(BodyFault::NoBody);
     }
-    let changes = read_changes(alloc, catalog, changeset)?;
-    Ok(Body::Changes(changes))
+    match *kind {
+        CHANGES => Ok(Body::Changes(read_changes(alloc, catalog, rest)?)),
+        WIDEN => read_widen(alloc, catalog, rest),
+        _ => Err(BodyFault::NoBody),
+    }
 }

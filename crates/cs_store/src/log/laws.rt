@@ -1,12 +1,14 @@
 //! The laws of logs, each the contract of a function that does nothing.
 
 ghost use Rattle.std.specs.Prelude.{◌≡◌};
-ghost use Rattle.cs_store.specs.log.Laws.{AppendedIsLog, DefinedOrNot, EmptyIsLog, FrontIsLog, LogIsApplied, LogStates, LongerLog, NextOrNot, OneBody, OneStateAVersion, PlainSlices};
+ghost use Rattle.cs_store.specs.log.Laws.{AppendedIsLog, CatalogNext, CatalogStays, CatalogsAreTables, DefinedOrNot, EmptyIsLog, EntryLeads, FrontIsLog, LogIsApplied, LogStates, LongerLog, NextOrNot, NoneWidens, OneBody, OneStateAVersion, OneStoredLog, PlainSlices, Slices};
+ghost use Rattle.cs_store.specs.log.Widens.{CatalogByWidens, WidensGrow};
 ghost use Rattle.cs_store.specs.declared.log.entry.TheConstants.{MAX_CHANGESET, MAX_ENTRIES};
 
 use cs_changeset::laws::changesets;
 use cs_normal::laws::{applied_is_net, normal_is_taken};
 use cs_normalising::laws::{normal_again, one_normal_form};
+use cs_widening::laws::{widened_are_tables, widened_is_state};
 
 /// How many bytes an entry's changeset may have.
 pub fn most_bytes()
@@ -44,8 +46,13 @@ pub fn one_state_a_version()
     ensures { OneStateAVersion }
 {}
 
-/// The entries between two versions, where none widens a table, lead from the tables at the one to those at the other. Each
-/// entry is defined on what the earlier ones left.
+/// The entries between two versions lead from the tables at the one to those at the other: each is defined on what the
+/// earlier ones left.
+pub fn slices()
+    ensures { Slices }
+{}
+
+/// Where none of them widens a table, their changesets are applied one after another by one catalog.
 pub fn plain_slices()
     ensures { PlainSlices }
 {}
@@ -60,6 +67,17 @@ pub fn log_states()
     ensures { LogStates }
 {
     applied_is_net();
+    widened_are_tables();
+    widened_is_state();
+}
+
+/// The tables at each version are a catalog.
+pub fn catalogs_are_tables()
+    ensures { CatalogsAreTables }
+{
+    applied_is_net();
+    widened_are_tables();
+    widened_is_state();
 }
 
 /// A changeset is defined on a state or it isn't: its own places decide.
@@ -82,4 +100,44 @@ pub fn one_body()
     normal_is_taken();
     normal_again();
     one_normal_form();
+}
+
+/// The catalog at a version is told by the tables that the log widens below it.
+pub fn catalog_by_widens()
+    ensures { CatalogByWidens }
+{}
+
+/// An entry more is one widened table more, or none.
+pub fn widens_grow()
+    ensures { WidensGrow }
+{}
+
+/// What an entry makes of the tables at its version are those at the next one.
+pub fn entry_leads()
+    ensures { EntryLeads }
+{}
+
+/// What an entry makes of the catalog at its version is the next one.
+pub fn catalog_next()
+    ensures { CatalogNext }
+{}
+
+/// No two logs of the same opening tables are stored alike.
+pub fn one_stored_log()
+    ensures { OneStoredLog }
+{
+    one_body();
+    catalogs_are_tables();
+}
+
+/// As long as none may be widened, no body of an entry widens a table.
+pub fn none_widens()
+    ensures { NoneWidens }
+{}
+
+/// As long as none may be widened, the catalog of a log is at each version the one that it opened with.
+pub fn catalog_stays()
+    ensures { CatalogStays }
+{
+    none_widens();
 }

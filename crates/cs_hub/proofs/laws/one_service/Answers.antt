@@ -3,7 +3,7 @@ use Rattle.cs_hub.proofs.laws.one_service.Goals as goal
 
 pub returns : goal.returns
 returns c =
-    one_service (record {
+    one_service c.catalogs_are_tables.ensures (record {
       changesets = c.changesets.ensures;
       form = c.one_normal_form.ensures;
       fit = c.no_fault_where_fit.ensures;

@@ -9,4 +9,6 @@ returns c =
       catches = c.catch_has_answer.ensures;
       read = c.changesets.ensures.found;
       decided = c.form_or_unfit.ensures;
+      catalogs = c.catalogs_are_tables.ensures;
+      stays = c.catalog_stays.ensures;
     })

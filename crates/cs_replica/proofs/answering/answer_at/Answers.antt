@@ -1,6 +1,7 @@
-use Rattle.std.proofs.Common.{Err, refl}
+use Rattle.std.proofs.Common.{Err, Ok, refl}
 use Rattle.cs_pending.specs.position.Shows.{ShowsSomeAt}
 use Rattle.cs_exchange.specs.pulling.Listed.{IsDeviceFault}
+use Rattle.cs_exchange.specs.declared.pulling.listing.Pulled.TheVariants.{Stopped}
 use Rattle.cs_replica.proofs.Answered.{entries_tell, entries_write, merged_ignored, merged_tells, merged_writes}
 use Rattle.cs_replica.proofs.answering.answer_at.Goals as goal
 
@@ -9,6 +10,11 @@ returns-in-Ok-Taken-clause-writes g c =
     entries_write g.P.Picker.picks g.S.RowStore c.args.catalog.now c.args.answer.now c.in-Entries.first c.in-Entries.entries c.in-Entries.is c.args.position.now c.args.store.now c.take_entries.new.store c.args.picker.now
     (Unit {0}) ⊥ (ShowsSomeAt c.args.catalog.now c.args.position.now (g.S.RowStore.contents c.args.store.now)) c.take_entries.new.position
     (rw c.in-Ok-Taken.field-0-is at c.in-Ok-Taken.ensures.writes)
+
+pub returns-in-Ok-Stopped-clause-told : goal.returns-in-Ok-Stopped-clause-told
+returns-in-Ok-Stopped-clause-told g c = λ honest before shows.
+    entries_tell g.P.Picker.picks g.S.RowStore c.args.catalog.now c.args.answer.now c.in-Entries.first c.in-Entries.entries c.in-Entries.is c.args.position.now c.args.store.now c.take_entries.new.store c.args.picker.now
+    (Ok (Stopped c.in-Ok-Stopped.count)) before c.take_entries.new.position c.take_entries.new.picker ((rw c.in-Ok-Stopped.field-0-is at c.in-Ok-Stopped.ensures.pulls) honest before shows)
 
 pub returns-in-Ok-Stopped-clause-writes : goal.returns-in-Ok-Stopped-clause-writes
 returns-in-Ok-Stopped-clause-writes g c =

@@ -11,4 +11,5 @@ returns c =
       again = c.normal_again.ensures;
       answer = c.answer_has_result_by.ensures;
       catch = c.catch_has_answer.ensures;
+      stays = c.catalog_stays.ensures;
     })

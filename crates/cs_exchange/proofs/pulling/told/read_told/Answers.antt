@@ -17,6 +17,7 @@ returns-clause-found c = record {
   kind = sym c.kind-2.ensures ∙ sym c.if-kind.false ∙ c.kind.ensures;
   origin = sym c.origin.ensures;
   number = sym c.number.ensures;
+  plain = tt;
   read = subst (λ (b : List ℕ). IsFormOf c.args.catalog.now b c.in-Some.changes) c.body.ensures
       (subst (λ (o : Option (List TableChanges)). IfSome o (IsFormOf c.args.catalog.now c.body.result.now)) c.in-Some.is c.in_ok-changes.ensures.found);
 }
@@ -24,6 +25,6 @@ returns-clause-found c = record {
 pub returns-clause-only : goal.returns-clause-only
 returns-clause-only c = λ entry is.
     ap (λ (e : LogEntry). Some e)
-    (one_entry _ entry (c.origin.ensures ∙ is.origin) (c.number.ensures ∙ is.number)
+    (one_entry _ entry (c.origin.ensures ∙ is.origin) (c.number.ensures ∙ is.number) tt is.plain
     (same_Some c.in-Some.changes (entry_changes entry)
     (sym c.in-Some.is ∙ c.in_ok-changes.ensures.only (entry_changes entry) (subst (λ (b : List ℕ). IsFormOf c.args.catalog.now b (entry_changes entry)) (sym c.body.ensures) is.read))))

@@ -1,7 +1,10 @@
 use Rattle.std.proofs.Common.{List, ◌≡◌, ◌<◌, ◌-◌, ◌∙◌, ℕ, ap, arith, drop, length, min, subst, sym, rules, tests}
 use Rattle.std.proofs.lemmas.List.{length-drop}
 use Rattle.cs_normal.specs.declared.normal.TableChanges.{TableChanges}
+use Rattle.cs_value.specs.declared.catalog.TableDef.{TableDef}
+use Rattle.cs_hub.specs.catching.Catches.{Catches}
 use Rattle.cs_hub.specs.catching.Runs.{IsRunOf}
+use Rattle.cs_hub.specs.declared.catching.caught.Caught.TheVariants.{Merged, Own}
 use Rattle.cs_hub.proofs.CatchingLemmas.Taken.{run_is_short}
 use Rattle.cs_hub.proofs.LogReadingLemmas.Caught.{merged_told, own_told}
 use Rattle.cs_hub.proofs.log_reading.catching.catch_at.Goals as goal
@@ -13,7 +16,8 @@ returns-then-is_empty-clause-told g c = λ honest log shows same.
     let least : c.min-count.result ≡ min c.args.limit (length entries) = c.min-count.ensures ∙ ap (λ (n : ℕ). min c.args.limit n) (sym left) in
     let read = c.in-Ok.ensures.found honest log shows (omega (arith, c.min-count.ensures, c.requires, same)) in
     let none : length c.in-Ok.others.changesets.items ≡ 0 = search (rules, tests, c.if-is_empty.ensures) in
-    own_told c.args.catalog.now c.args.asker c.args.limit c.min-count.result entries c.in-Ok.others.changesets.items least read c.if-count-gt0.true none
+    subst (λ (tables : List TableDef). Catches tables c.args.asker c.args.limit entries Own) (sym (c.catalog_stays.ensures c.args.catalog.now log c.args.first shows.is_log))
+    (own_told c.args.catalog.now c.args.asker c.args.limit c.min-count.result entries c.in-Ok.others.changesets.items least read c.if-count-gt0.true none)
 
 pub returns-clause-short : goal.returns-clause-short
 returns-clause-short g c =
@@ -26,9 +30,10 @@ returns-clause-told g c = λ honest log shows same.
     let least : c.min-count.result ≡ min c.args.limit (length entries) = c.min-count.ensures ∙ ap (λ (n : ℕ). min c.args.limit n) (sym left) in
     let read = c.in-Ok.ensures.found honest log shows (omega (arith, c.min-count.ensures, c.requires, same)) in
     let run = subst (λ (list : List (List TableChanges)). IsRunOf c.args.catalog.now list c.in_ok-count.count c.in_ok-count.changes) c.as_slice.ensures.value c.in_ok-count.ensures in
-    merged_told c.args.catalog.now c.args.asker c.args.limit c.min-count.result entries c.in-Ok.others.changesets.items least read c.in_ok-count.count c.in_ok-count.changes
+    subst (λ (tables : List TableDef). Catches tables c.args.asker c.args.limit entries (Merged c.in_ok-count.count c.in_ok-count.changes)) (sym (c.catalog_stays.ensures c.args.catalog.now log c.args.first shows.is_log))
+    (merged_told c.args.catalog.now c.args.asker c.args.limit c.min-count.result entries c.in-Ok.others.changesets.items least read c.in_ok-count.count c.in_ok-count.changes
     (λ some. elim c.else-count-gt0.branch [
       | goal.else-count-gt0-via-then-count-gt0+else-is_empty w ↦ (let some_read : 0 < length c.in-Ok.others.changesets.items = search (rules, tests, w.if-is_empty.ensures) in some_read)
       | goal.else-count-gt0-via-else-count-gt0 w ↦ omega (arith, some, w.if-count-gt0.false)
     ])
-    run
+    run)

@@ -18,6 +18,9 @@ returns-then-is_told_alone-clause-read c = λ entries are.
 pub returns-then-is_told_alone-clause-counted : goal.returns-then-is_told_alone-clause-counted
 returns-then-is_told_alone-clause-counted c = λ few. let counted = c.loop-entry.invariant.counted few in omega (arith, counted, few)
 
+pub into_changes-requires : goal.into_changes-requires
+into_changes-requires c = c.none_widens.ensures c.args.catalog.now c.in-Ok.read.body c.in-Ok.ensures.is.fits.widens
+
 pub loop-entry-preserved : goal.loop-entry-preserved
 loop-entry-preserved c =
     let grown = c.in_ok-push.ensures.items ∙ ap (λ (changes : List TableChanges). c.loop-entry.changesets.items ++ changes ∷ []) c.into_changes.ensures in

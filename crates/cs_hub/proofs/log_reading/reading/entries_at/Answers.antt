@@ -20,7 +20,7 @@ pub returns-in-Ok-read_each-clause-found : goal.returns-in-Ok-read_each-clause-f
 returns-in-Ok-read_each-clause-found g c = λ honest log shows within.
     let entries = take c.args.count (drop c.args.first log) in
     c.in-Ok-read_each.ensures.read entries
-    (subst (λ (items : List LogItem). AreStoredAs c.args.catalog.now items entries) (sym (ap items_of c.as_slice.ensures.value ∙ c.in-Ok.ensures.found honest)) (are_stored c.args.catalog.now (g.S.RowStore.contents c.args.store.now) log shows c.args.first c.args.count within))
+    (subst (λ (items : List LogItem). AreStoredAs c.args.catalog.now items entries) (sym (ap items_of c.as_slice.ensures.value ∙ c.in-Ok.ensures.found honest)) (are_stored c.catalog_stays.ensures c.args.catalog.now (g.S.RowStore.contents c.args.store.now) log shows c.args.first c.args.count within))
 
 pub returns-in-Err-NoBody-clause-reads : goal.returns-in-Err-NoBody-clause-reads
 returns-in-Err-NoBody-clause-reads g c =
@@ -28,7 +28,7 @@ returns-in-Err-NoBody-clause-reads g c =
     (λ honest (some : ShowsEntries c.args.catalog.now (g.S.RowStore.contents c.args.store.now) c.args.first c.args.count).
     let entries = take c.args.count (drop c.args.first some.0) in
     c.in-Err-NoBody.ensures.unread entries
-    (subst (λ (items : List LogItem). AreStoredAs c.args.catalog.now items entries) (sym (ap items_of c.as_slice.ensures.value ∙ c.in-Ok.ensures.found honest)) (are_stored c.args.catalog.now (g.S.RowStore.contents c.args.store.now) some.0 some.1 c.args.first c.args.count some.2))
+    (subst (λ (items : List LogItem). AreStoredAs c.args.catalog.now items entries) (sym (ap items_of c.as_slice.ensures.value ∙ c.in-Ok.ensures.found honest)) (are_stored c.catalog_stays.ensures c.args.catalog.now (g.S.RowStore.contents c.args.store.now) some.0 some.1 c.args.first c.args.count some.2))
     (ap (λ (fault : BodyFault). Err fault) c.in-Err-NoBody.field-0-is))
     c.in-Ok.ensures.reads c.misread.ensures.counted
 

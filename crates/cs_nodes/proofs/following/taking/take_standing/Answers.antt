@@ -6,8 +6,8 @@ use Rattle.cs_nodes.proofs.following.taking.take_standing.Goals as goal
 pub returns-in-Ok-clause-stands : goal.returns-in-Ok-clause-stands
 returns-in-Ok-clause-stands g c = λ known here stands.
     taken_stands g.S.RowStore known c.args.replica.now c.take_next.new.replica c.in-Ok.ensures.writes.was_honest c.take_next.ensures.catalog
-    g.P.Picker.picks c.pulled_leads.ensures c.defined_is_applied.ensures c.appended_is_log.ensures c.args.entry.now c.args.picker.now c.take_next.new.picker
-    (rw c.changeset.ensures at c.tables-changes.ensures.normal) here c.in-Ok.ensures.writes.ok c.in-Ok.ensures.moved c.in-Ok.ensures.counted stands
+    g.P.Picker.picks c.pulled_leads.ensures c.defined_is_applied.ensures c.appended_is_log.ensures c.catalog_stays.ensures c.args.entry.now c.args.picker.now c.take_next.new.picker
+    c.normal_changes.ensures here c.in-Ok.ensures.writes.ok c.in-Ok.ensures.moved c.in-Ok.ensures.counted stands
 
 pub returns-in-Err-clause-bad : goal.returns-in-Err-clause-bad
 returns-in-Err-clause-bad g c = λ known here short stands is h.
