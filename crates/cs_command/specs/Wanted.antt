@@ -7,8 +7,9 @@ use Rattle.cs_tools.specs.declared.tool.Tool.{Tool}
 use Rattle.cs_command.specs.declared.asked.Asked.{Asked}
 use Rattle.cs_command.specs.declared.asked.Asked.TheVariants as asked
 
--- a hub, over a file or not. Or a world of so many replicas. Or a replica with this id over a file, which reads all its lines first or
--- answers each as it comes. Or a meeting of the hub over a file with that replica, where the same is wished at each clash. Or a tool over the input, what a file is shown as, or files taken together in a form
+-- a hub, over a file or not. Or a world of so many replicas. Or a replica with this id over a file, which reads all its lines
+-- first or answers each as it comes. Or a meeting of the hub over a file with that replica, where the same is wished at each
+-- clash. Or a tool over the input, what a file is shown as, or files taken together in a form
 pub data Wanted : Type 0 where
   Hub : Option (List ℕ) → Wanted
   World : ℕ → Wanted

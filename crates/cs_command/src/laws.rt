@@ -43,8 +43,8 @@ pub fn asks_to_follow()
     ensures { AsksToFollow }
 {}
 
-/// `sync exchange --keep h f 7 t1:10` is taken and asks for the hub over the file `h` and the replica 7 over the file `f` to meet, where own
-/// changes are kept.
+/// `sync exchange --keep h f 7 t1:10` is taken and asks for the hub over the file `h` and the replica 7 over the file `f` to
+/// meet, where own changes are kept.
 pub fn asks_to_exchange()
     ensures { AsksToExchange }
 {}

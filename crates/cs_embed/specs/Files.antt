@@ -3,6 +3,8 @@ use Rattle.std.specs.Prelude.{ℕ, List, []}
 use Rattle.sqlite.specs.Files.{HoldsDatabase}
 use Rattle.sqlite.specs.Recovery.{Image}
 use Rattle.sqlite.specs.Tree.{Trees}
+use Rattle.cs_sql.specs.Opening.{HoldStore, OpenedHolds}
+use Rattle.cs_store.specs.Contents.{Contents}
 
 -- the two files of the database
 abbrev pub alone : List ℕ → Image
@@ -12,6 +14,10 @@ alone bytes = record { log = []; db = bytes }
 abbrev pub HoldTrees : List ℕ → Trees → Type 0
 HoldTrees bytes db = ∥ HoldsDatabase (alone bytes) db ∥₁
 
--- the bytes hold a database, without a log
-abbrev pub IsDatabaseFile : List ℕ → Type 0
-IsDatabaseFile bytes = (db : Trees) × HoldTrees bytes db
+-- a store that is opened in the bytes holds this
+abbrev pub OpenTo : List ℕ → Contents → Type 0
+OpenTo bytes held = OpenedHolds (alone bytes) held
+
+-- the bytes hold a store's database, without a log, and that holds this
+abbrev pub KeepStore : List ℕ → Contents → Type 0
+KeepStore bytes held = HoldStore (alone bytes) held

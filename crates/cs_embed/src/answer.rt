@@ -36,8 +36,8 @@ const MISMATCH: u32 = 63;
 /// The number of an id that no replica has.
 const BAD_ID: u32 = 64;
 
-/// What became of a call: the number of its fault, 0 where all was done; the number of the line that can't be read, from 1 on, or 0;
-/// how many bytes the texts take, and how many the file, or 0 beside a fault.
+/// What became of a call: the number of its fault, 0 where all was done; the number of the line that can't be read, from 1 on, or
+/// 0; how many bytes the texts take, and how many the file, or 0 beside a fault.
 #[repr(C)]
 #[derive(Clone, Copy, Debug, PartialEq, Eq)]
 pub struct Answer {

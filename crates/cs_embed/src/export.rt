@@ -24,7 +24,7 @@ pub extern "C" fn cs_embed_node(
     told: &mut [u8],
     left: &mut [u8],
 ) -> Answer
-    ensures answers { Hands (LeavesNode ⟦<Filed as RowStore>⟧ tables.now id lines.now) (IsNodeRefusal tables.now id lines.now)
+    ensures answers { Hands (LeavesNode ⟦<Filed as RowStore>⟧ tables.now id file.now lines.now) (IsNodeRefusal tables.now id lines.now)
         (rooms_of told.old told.new left.old left.new) result }
 {
     if id == u32::MAX {
@@ -49,7 +49,7 @@ pub extern "C" fn cs_embed_hub(
     told: &mut [u8],
     left: &mut [u8],
 ) -> Answer
-    ensures answers { Hands (LeavesHub ⟦<Filed as RowStore>⟧ tables.now lines.now) (IsHubRefusal tables.now)
+    ensures answers { Hands (LeavesHub ⟦<Filed as RowStore>⟧ tables.now file.now lines.now) (IsHubRefusal tables.now)
         (rooms_of told.old told.new left.old left.new) result }
 {
     match declared_tables(alloc, tables) {

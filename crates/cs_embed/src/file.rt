@@ -1,12 +1,13 @@
 //! A store in the bytes of a file.
 
 ghost use Rattle.std.specs.Prelude.{◌≡◌, false, IfOk, IsTrue};
-ghost use Rattle.sqlite.specs.Files.{IsOpened, file_state};
+ghost use Rattle.sqlite.specs.Files.{IsOpened, file_state, over_files};
 ghost use Rattle.sqlite.specs.Start.{FindsIn};
 ghost use Rattle.sqlite.specs.State.{HasCleanDisk};
 ghost use Rattle.sqlite_disk.specs.Memory.{memory_bytes, memory_is_usable};
+ghost use Rattle.cs_sql.specs.Keeping.{holds};
 ghost use Rattle.cs_sql.specs.Opening.{IsOpenedAt};
-ghost use Rattle.cs_embed.specs.Files.{HoldTrees, alone};
+ghost use Rattle.cs_embed.specs.Files.{HoldTrees, KeepStore, OpenTo, alone};
 ghost use Rattle.cs_embed.specs.Watched.{inner_of};
 
 use crate::watched::Watched;
@@ -102,6 +103,7 @@ fn unadopted(conn: Connection<FileStore<File>>, fault: StoreFault) -> StoreFault
 /// The store in a file of these bytes. One of no bytes is new.
 pub fn open_file(alloc: Global, bytes: &[u8]) -> Result<Filed, StoreFault>
     ensures opened { IfOk result (λ store. HasCleanDisk (file_state store.conn) → IsOpenedAt (alone bytes.now) store) }
+    ensures holds { IfOk result (λ store. HasCleanDisk (file_state store.conn) → OpenTo bytes.now (holds over_files store)) }
 {
     let Ok(db) = memory_of(alloc, bytes) else {
         return Err(StoreFault::Memory);
@@ -118,6 +120,7 @@ pub fn close_file(store: Filed) -> Result<File, StoreFault>
     ensures clean { IfOk result (λ _. HasCleanDisk (file_state store.conn)) }
     ensures was_open { IfOk result (λ _. IsTrue (file_state store.conn).is_open) }
     ensures left { IfOk result (λ file. HoldTrees (memory_bytes (inner_of file)) (file_state store.conn).committed.trees) }
+    ensures holds { IfOk result (λ file. KeepStore (memory_bytes (inner_of file)) (holds over_files store)) }
 {
     disconnect(store.close())
 }

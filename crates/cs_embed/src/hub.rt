@@ -2,7 +2,6 @@
 
 ghost use Rattle.std.specs.Prelude.{IfErr, IfOk};
 ghost use Rattle.sqlite_disk.specs.Memory.{memory_bytes};
-ghost use Rattle.cs_embed.specs.Files.{IsDatabaseFile};
 ghost use Rattle.cs_embed.specs.Refusals.{IsFileRefusal};
 ghost use Rattle.cs_embed.specs.Told.{TellsHub};
 ghost use Rattle.cs_embed.specs.Watched.{inner_of};
@@ -22,8 +21,7 @@ pub fn serve_file(
     file: &[u8],
     lines: &[u8],
 ) -> Result<Made, Answer>
-    ensures told { IfOk result (λ made. TellsHub ⟦<Filed as RowStore>⟧ catalog.now lines.now made.texts.items) }
-    ensures made { IfOk result (λ made. IsDatabaseFile (memory_bytes (inner_of made.file))) }
+    ensures told { IfOk result (λ made. TellsHub ⟦<Filed as RowStore>⟧ catalog.now file.now lines.now made.texts.items (memory_bytes (inner_of made.file))) }
     ensures refused { IfErr result IsFileRefusal }
 {
     let store = match open_file(alloc, file) {

@@ -2,9 +2,8 @@
 
 ghost use Rattle.std.specs.Prelude.{◌≡◌, ◌<◌, ◌-◌, ◌^◌, IfErr, IfOk};
 ghost use Rattle.sqlite_disk.specs.Memory.{memory_bytes};
-ghost use Rattle.cs_embed.specs.Files.{IsDatabaseFile};
 ghost use Rattle.cs_embed.specs.Refusals.{IsFileRefusal, IsLineRefusal};
-ghost use Rattle.cs_embed.specs.Told.{TellsAsks, TellsNode};
+ghost use Rattle.cs_embed.specs.Told.{TellsNode, WorksAsks};
 ghost use Rattle.cs_embed.specs.Watched.{inner_of};
 
 use crate::answer::Answer;
@@ -25,8 +24,7 @@ fn work_store(
     asks: &[Ask],
 ) -> Result<Made, Answer>
     requires { id < 2 ^ 32 - 1 }
-    ensures told { IfOk result (λ made. TellsAsks ⟦<Filed as RowStore>⟧ catalog.now id asks.now made.texts.items) }
-    ensures made { IfOk result (λ made. IsDatabaseFile (memory_bytes (inner_of made.file))) }
+    ensures told { IfOk result (λ made. WorksAsks ⟦<Filed as RowStore>⟧ catalog.now id asks.now store made.texts.items (memory_bytes (inner_of made.file))) }
     ensures refused { IfErr result IsFileRefusal }
 {
     let mut texts = Vec::new(alloc);
@@ -51,8 +49,7 @@ pub fn work_file(
     lines: &[u8],
 ) -> Result<Made, Answer>
     requires { id < 2 ^ 32 - 1 }
-    ensures told { IfOk result (λ made. TellsNode ⟦<Filed as RowStore>⟧ catalog.now id lines.now made.texts.items) }
-    ensures made { IfOk result (λ made. IsDatabaseFile (memory_bytes (inner_of made.file))) }
+    ensures told { IfOk result (λ made. TellsNode ⟦<Filed as RowStore>⟧ catalog.now id file.now lines.now made.texts.items (memory_bytes (inner_of made.file))) }
     ensures refused { IfErr result (IsLineRefusal catalog.now lines.now) }
 {
     let mut reader = lines;

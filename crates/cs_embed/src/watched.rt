@@ -5,8 +5,8 @@ ghost use Rattle.std.specs.Prelude.{◌≡◌, false};
 use sqlite_disk::{Disk, Tally};
 use std::io;
 
-/// A disk that tells whether a write failed. The engine tells all failures of a disk alike. Of a file in memory a write fails for want of
-/// memory alone, and is to be told so.
+/// A disk that tells whether a write failed. The engine tells all failures of a disk alike. Of a file in memory a write fails for
+/// want of memory alone, and is to be told so.
 #[derive(Drop)]
 pub struct Watched<D: Disk> {
     inner: D,

@@ -5,4 +5,6 @@ pub mod Delivering
 pub mod Turning
 pub mod Told
 pub mod OneTurn
+pub mod OneMeeting
+pub mod SomeTurn
 pub mod Ended

@@ -13,7 +13,7 @@ use Rattle.cs_world.specs.declared.event.Event.TheVariants.{Deliver}
 use Rattle.cs_world.specs.declared.outcome.Outcome.{Outcome}
 use Rattle.cs_meeting.specs.Asks.{asked_event, next_ask, own_count}
 use Rattle.cs_meeting.specs.Laws.{IsWhole, OneTurn, TurnIsSound}
-use Rattle.cs_meeting.specs.Turns.{TakesTurn}
+use Rattle.cs_meeting.specs.Turns.{TakesMeetingTurn}
 use Rattle.cs_meeting.specs.declared.ask.Ask.{Ask}
 
 pub turn_is_sound : StepsAreSound → TurnIsSound
@@ -33,7 +33,7 @@ module _ (one : OneStep) (sound : StepsAreSound) (limit : ℕ) (small : limit < 
       (both.0, both.1, (sound limit old new event some small is step).0, (sound limit its last its_event other small its_is its_step).0)
 
   pub one_turn_so : (r : ℕ) (wish : Wish) (old its new last : World) (some other : List ℕ) → IsSound limit old → IsSound limit its → IsSameWorld old its
-      → (turn : TakesTurn limit r wish old new some) → (its_turn : TakesTurn limit r wish its last other) → IsWhole turn → IsWhole its_turn
+      → (turn : TakesMeetingTurn limit r wish old new some) → (its_turn : TakesMeetingTurn limit r wish its last other) → IsWhole turn → IsWhole its_turn
       → (turn.ask ≡ its_turn.ask) × (turn.turns.hearing ≡ its_turn.turns.hearing) × IsSameWorld new last
   one_turn_so r wish old its new last some other is its_is same turn its_turn whole its_whole =
       let member = same.members r turn.before its_turn.before turn.was its_turn.was in

@@ -1,5 +1,5 @@
 -- Turns one behind another, as they are printed, and what a meeting comes to.
-use Rattle.std.proofs.Common.{◌≡◌, ◌+◌, ◌∙◌, ◌++◌, ℕ, Bool, true, false, List, [], ◌∷◌, Some, None, Ok, Err, length, refl, sym, ap, subst, inl, inr, arith, append_assoc, append-nil}
+use Rattle.std.proofs.Common.{◌≡◌, ◌+◌, ◌<◌, ◌∙◌, ◌++◌, ℕ, Bool, true, false, List, [], ◌∷◌, Some, None, Ok, Err, length, refl, sym, ap, subst, inl, inr, arith, append_assoc, append-nil}
 use Rattle.std.specs.Prelude.{Option}
 use Rattle.std.specs.Io.KnownBytes.{Appends, Keeps}
 use Rattle.std.proofs.KnownBytes.{Appends-kept, Appends-trans}
@@ -15,7 +15,7 @@ use Rattle.cs_meeting.specs.Asks.{next_ask}
 use Rattle.cs_meeting.specs.Ends.{BreaksOff}
 use Rattle.cs_meeting.specs.Held.{Held}
 use Rattle.cs_meeting.specs.Steps.{AllMet, Goes, MetTold, TellsPlace, TurnMade, TurnTold}
-use Rattle.cs_meeting.specs.Turns.{Meets, MovesOn, TakesTurn, TakesTurns}
+use Rattle.cs_meeting.specs.Turns.{Meets, MovesOn, TakesMeetingTurn, TakesMeetingTurns}
 use Rattle.cs_meeting.specs.declared.ask.TheConstants.{TURNS}
 use Rattle.cs_meeting.specs.declared.fault.MeetingFault.{MeetingFault}
 use Rattle.cs_meeting.specs.declared.fault.MeetingFault.TheVariants as fault
@@ -51,9 +51,9 @@ module _ {S : Type 0} (g : Ghosts S) (wish : Wish) where
 
   -- one turn more, whether or not it moved
   more : (texts : List (List ℕ)) (text : List ℕ) (old mid new : Held S) → Goes g (λ r world next. MovesOn MAX_ENTRIES r wish world texts next) old mid → TurnMade g wish text mid new
-      → Goes g (λ r world next. TakesTurns MAX_ENTRIES r wish world (texts ++ text ∷ []) next) old new
+      → Goes g (λ r world next. TakesMeetingTurns MAX_ENTRIES r wish world (texts ++ text ∷ []) next) old new
   more texts text old mid new goes turn =
-      goes_on g (λ r world next. MovesOn MAX_ENTRIES r wish world texts next) (λ r world next. TakesTurn MAX_ENTRIES r wish world next text) (λ r world next. TakesTurns MAX_ENTRIES r wish world (texts ++ text ∷ []) next)
+      goes_on g (λ r world next. MovesOn MAX_ENTRIES r wish world texts next) (λ r world next. TakesMeetingTurn MAX_ENTRIES r wish world next text) (λ r world next. TakesMeetingTurns MAX_ENTRIES r wish world (texts ++ text ∷ []) next)
       old mid new goes turn (λ r world between next a b. one_more g MAX_ENTRIES r wish texts text world between next (turns_of g MAX_ENTRIES r wish texts world between a) b)
 
   pub met_more : (count : ℕ) (write_failed : Type 0) (before between after : Option (List ℕ)) (old mid new : Held S) → MetSo count before between old mid
@@ -66,18 +66,18 @@ module _ {S : Type 0} (g : Ghosts S) (wish : Wish) where
     printed_so = prints_more before between after met.texts text met.printed_so prints;
   }
 
-  pub met_still : (count : ℕ) (write_failed : Type 0) (before between after : Option (List ℕ)) (old mid new : Held S) → MetSo count before between old mid
+  pub met_still : (count : ℕ) → count < TURNS → (write_failed : Type 0) (before between after : Option (List ℕ)) (old mid new : Held S) → MetSo count before between old mid
       → TurnTold g wish (Ok false) write_failed between after mid new → AllMet g wish (Ok false) write_failed before after old new
-  met_still count write_failed before between after old mid new met (text, turn, prints) = (
+  met_still count few write_failed before between after old mid new met (text, turn, prints) = (
     met.texts ++ text ∷ [],
     goes_on g (λ r world next. MovesOn MAX_ENTRIES r wish world met.texts next) _ (λ r world next. Meets MAX_ENTRIES r wish false world (met.texts ++ text ∷ []) next)
-        old mid new met.goes turn (λ r world among next a b. inl (met.texts, text, among, refl, a, b.0, b.1)),
+        old mid new met.goes turn (λ r world among next a b. inl (met.texts, text, among, refl, subst (λ (n : ℕ). n < TURNS) (sym met.counted) few, a, b.0, b.1)),
     prints_more before between after met.texts text met.printed_so prints,
   )
 
-  pub met_rest : (count : ℕ) (write_failed : Type 0) (before after : Option (List ℕ)) (old new : Held S) → MetSo count before after old new
+  pub met_rest : (count : ℕ) → count < TURNS → (write_failed : Type 0) (before after : Option (List ℕ)) (old new : Held S) → MetSo count before after old new
       → next_ask new.hub.newest new.replica.position ≡ None → AllMet g wish (Ok true) write_failed before after old new
-  met_rest count write_failed before after old new met none = (
+  met_rest count few write_failed before after old new met none = (
     met.texts,
     λ r. record {
       was_honest = (met.goes r).was_honest;
@@ -85,7 +85,7 @@ module _ {S : Type 0} (g : Ghosts S) (wish : Wish) where
           let n = (met.goes r).went all world stands in
           let at_rest : next_ask (length n.0.log) n.2.0.member.position ≡ None =
           subst (λ (p : Position). next_ask (length n.0.log) p ≡ None) n.2.0.shows.position (subst (λ (k : ℕ). next_ask k new.replica.position ≡ None) n.2.0.log.1 none) in
-          (n.0, (n.1, (n.2.0.member, n.2.0.is, at_rest)), n.2);
+          (n.0, (n.1, (n.2.0.member, n.2.0.is, at_rest), subst (λ (k : ℕ). k < TURNS) (sym met.counted) few), n.2);
     },
     met.printed_so,
   )
@@ -100,10 +100,10 @@ module _ {S : Type 0} (g : Ghosts S) (wish : Wish) where
 
   -- none more
   no_more : (texts : List (List ℕ)) (old new : Held S) → Goes g (λ r world next. MovesOn MAX_ENTRIES r wish world texts next) old new
-      → Goes g (λ r world next. TakesTurns MAX_ENTRIES r wish world (texts ++ []) next) old new
+      → Goes g (λ r world next. TakesMeetingTurns MAX_ENTRIES r wish world (texts ++ []) next) old new
   no_more texts old new goes =
-      goes_so g (λ r world next. MovesOn MAX_ENTRIES r wish world texts next) (λ r world next. TakesTurns MAX_ENTRIES r wish world (texts ++ []) next) old new goes
-      (λ r world next t. subst (λ (ts : List (List ℕ)). TakesTurns MAX_ENTRIES r wish world ts next) (sym (append-nil texts)) (turns_of g MAX_ENTRIES r wish texts world next t))
+      goes_so g (λ r world next. MovesOn MAX_ENTRIES r wish world texts next) (λ r world next. TakesMeetingTurns MAX_ENTRIES r wish world (texts ++ []) next) old new goes
+      (λ r world next t. subst (λ (ts : List (List ℕ)). TakesMeetingTurns MAX_ENTRIES r wish world ts next) (sym (append-nil texts)) (turns_of g MAX_ENTRIES r wish texts world next t))
 
   pub met_fault : (why : MeetingFault) (count : ℕ) (write_failed : Type 0) (before between after : Option (List ℕ)) (old mid new : Held S) → MetSo count before between old mid
       → TurnTold g wish (Err why) write_failed between after mid new → AllMet g wish (Err why) write_failed before after old new
@@ -111,7 +111,7 @@ module _ {S : Type 0} (g : Ghosts S) (wish : Wish) where
     met.texts,
     [],
     [],
-    subst (λ (h : Held S). Goes g (λ r world next. TakesTurns MAX_ENTRIES r wish world (met.texts ++ []) next) old h) (sym same) (no_more met.texts old mid met.goes),
+    subst (λ (h : Held S). Goes g (λ r world next. TakesMeetingTurns MAX_ENTRIES r wish world (met.texts ++ []) next) old h) (sym same) (no_more met.texts old mid met.goes),
     inr (refl, refl),
     Appends-kept before between after (printed met.texts) met.printed_so kept,
   )
@@ -141,10 +141,10 @@ module _ {S : Type 0} (g : Ghosts S) (wish : Wish) where
   told_place at_rest write_failed before between after old new place (texts, goes, prints) now =
       (texts, goes, prints_more before between after texts place prints now)
 
-  meets_turns : (at_rest : Bool) (r : ℕ) (world next : World) (texts : List (List ℕ)) → Meets MAX_ENTRIES r wish at_rest world texts next → TakesTurns MAX_ENTRIES r wish world texts next
+  meets_turns : (at_rest : Bool) (r : ℕ) (world next : World) (texts : List (List ℕ)) → Meets MAX_ENTRIES r wish at_rest world texts next → TakesMeetingTurns MAX_ENTRIES r wish world texts next
   meets_turns true r world next texts meets = turns_of g MAX_ENTRIES r wish texts world next meets.0
-  meets_turns false r world next texts (inl (front, text, between, is, moves, turn, still)) =
-      subst (λ (ts : List (List ℕ)). TakesTurns MAX_ENTRIES r wish world ts next) (sym is) (one_more g MAX_ENTRIES r wish front text world between next (turns_of g MAX_ENTRIES r wish front world between moves) turn)
+  meets_turns false r world next texts (inl (front, text, between, is, few, moves, turn, still)) =
+      subst (λ (ts : List (List ℕ)). TakesMeetingTurns MAX_ENTRIES r wish world ts next) (sym is) (one_more g MAX_ENTRIES r wish front text world between next (turns_of g MAX_ENTRIES r wish front world between moves) turn)
   meets_turns false r world next texts (inr meets) = turns_of g MAX_ENTRIES r wish texts world next meets.0
 
   place_breaks : (why : MeetingFault) (write_failed : Type 0) (before between after : Option (List ℕ)) (done place : List ℕ) → Appends before between done
@@ -163,8 +163,8 @@ module _ {S : Type 0} (g : Ghosts S) (wish : Wish) where
         texts,
         [],
         place,
-        goes_so g (λ r world next. Meets MAX_ENTRIES r wish at_rest world texts next) (λ r world next. TakesTurns MAX_ENTRIES r wish world (texts ++ []) next) old new goes
-            (λ r world next meets. subst (λ (ts : List (List ℕ)). TakesTurns MAX_ENTRIES r wish world ts next) (sym (append-nil texts)) (meets_turns at_rest r world next texts meets)),
+        goes_so g (λ r world next. Meets MAX_ENTRIES r wish at_rest world texts next) (λ r world next. TakesMeetingTurns MAX_ENTRIES r wish world (texts ++ []) next) old new goes
+            (λ r world next meets. subst (λ (ts : List (List ℕ)). TakesMeetingTurns MAX_ENTRIES r wish world ts next) (sym (append-nil texts)) (meets_turns at_rest r world next texts meets)),
         inr (refl, inl refl),
         place_breaks why write_failed before between after (printed texts) place prints tells,
       )

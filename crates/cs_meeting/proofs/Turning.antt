@@ -19,7 +19,7 @@ use Rattle.cs_world.specs.declared.outcome.Outcome.TheVariants as told
 use Rattle.cs_meeting.specs.Asks.{next_ask, own_count}
 use Rattle.cs_meeting.specs.Held.{Held}
 use Rattle.cs_meeting.specs.Steps.{Asks, Delivers, Goes, HasMoved, MakesTurn, TurnMade, TurnTo}
-use Rattle.cs_meeting.specs.Turns.{MovesOn, TakesTurn, TakesTurns, Turns}
+use Rattle.cs_meeting.specs.Turns.{IsMeetingTurn, MovesOn, TakesMeetingTurn, TakesMeetingTurns}
 use Rattle.cs_meeting.specs.declared.ask.Ask.{Ask}
 
 module _ {S : Type 0} (g : Ghosts S) where
@@ -53,7 +53,7 @@ module _ {S : Type 0} (g : Ghosts S) where
 
   -- nothing was asked
   pub goes_refused : (what : Ask) (fault : PushFault) (wishes : List Wish) (old new : Held S) → Asks g what (Err fault) old new
-      → Goes g (λ r world next. Turns r wishes MAX_ENTRIES what world next (refused_text (push_fault_text fault))) old new
+      → Goes g (λ r world next. IsMeetingTurn r wishes MAX_ENTRIES what world next (refused_text (push_fault_text fault))) old new
   goes_refused what fault wishes old new asks r = record {
     was_honest = (asks r).was_honest;
     went = λ all world stands.
@@ -77,12 +77,12 @@ module _ {S : Type 0} (g : Ghosts S) where
 
   -- the turn that was next, between the places where the replica stood
   abbrev PlacedTurn : Wish → List ℕ → Held S → Held S → Type 0
-  PlacedTurn wish text old new = Goes g (λ r world next. (turn : TakesTurn MAX_ENTRIES r wish world next text)
+  PlacedTurn wish text old new = Goes g (λ r world next. (turn : TakesMeetingTurn MAX_ENTRIES r wish world next text)
       × (old.replica.position ≡ turn.before.position) × (new.replica.position ≡ turn.after.position)) old new
 
   pub next_turn : (what : Ask) (wish : Wish) (wishes : List Wish) (text : List ℕ) (old new : Held S) → next_ask old.hub.newest old.replica.position ≡ Some what
       → wishes ≡ replicate (own_count old.replica.position) wish
-      → Goes g (λ r world next. Turns r wishes MAX_ENTRIES what world next text) old new → PlacedTurn wish text old new
+      → Goes g (λ r world next. IsMeetingTurn r wishes MAX_ENTRIES what world next text) old new → PlacedTurn wish text old new
   next_turn what wish wishes text old new is_next are goes r = record {
     was_honest = (goes r).was_honest;
     went = λ all world stands.
@@ -91,20 +91,20 @@ module _ {S : Type 0} (g : Ghosts S) where
         let asked_for : next_ask (length world.log) stands.0.member.position ≡ Some what =
         subst (λ (p : Position). next_ask (length world.log) p ≡ Some what) place (subst (λ (k : ℕ). next_ask k old.replica.position ≡ Some what) stands.0.log.1 is_next) in
         let wished : wishes ≡ replicate (own_count stands.0.member.position) wish = are ∙ ap (λ (p : Position). replicate (own_count p) wish) place in
-        let turn : TakesTurn MAX_ENTRIES r wish world n.0 text = record {
+        let turn : TakesMeetingTurn MAX_ENTRIES r wish world n.0 text = record {
           before = stands.0.member;
           after = n.2.0.member;
           ask = what;
           was = stands.0.is;
           is = n.2.0.is;
           next = asked_for;
-          turns = subst (λ (ws : List Wish). Turns r ws MAX_ENTRIES what world n.0 text) wished n.1;
+          turns = subst (λ (ws : List Wish). IsMeetingTurn r ws MAX_ENTRIES what world n.0 text) wished n.1;
         } in (n.0, (turn, place, n.2.0.shows.position), n.2);
   }
 
   -- ---- one behind another
 
-  pub one_moved : (limit r : ℕ) (wish : Wish) (texts : List (List ℕ)) (text : List ℕ) (old mid new : World) → MovesOn limit r wish old texts mid → (turn : TakesTurn limit r wish mid new text)
+  pub one_moved : (limit r : ℕ) (wish : Wish) (texts : List (List ℕ)) (text : List ℕ) (old mid new : World) → MovesOn limit r wish old texts mid → (turn : TakesMeetingTurn limit r wish mid new text)
       → turn.after.position.version ≢ turn.before.position.version → MovesOn limit r wish old (texts ++ text ∷ []) new
   one_moved limit r wish [] text old mid new same turn moved =
       subst (λ (w : World). MovesOn limit r wish w (text ∷ []) new) same (new, turn, moved, refl)
@@ -112,13 +112,13 @@ module _ {S : Type 0} (g : Ghosts S) where
       (between, now, on, one_moved limit r wish texts text between mid new more turn moved)
 
   -- whether or not they moved
-  pub turns_of : (limit r : ℕ) (wish : Wish) (texts : List (List ℕ)) (old new : World) → MovesOn limit r wish old texts new → TakesTurns limit r wish old texts new
+  pub turns_of : (limit r : ℕ) (wish : Wish) (texts : List (List ℕ)) (old new : World) → MovesOn limit r wish old texts new → TakesMeetingTurns limit r wish old texts new
   turns_of limit r wish [] old new same = same
   turns_of limit r wish (text ∷ texts) old new (between, turn, moved, more) = (between, turn, turns_of limit r wish texts between new more)
 
-  pub one_more : (limit r : ℕ) (wish : Wish) (texts : List (List ℕ)) (text : List ℕ) (old mid new : World) → TakesTurns limit r wish old texts mid → TakesTurn limit r wish mid new text
-      → TakesTurns limit r wish old (texts ++ text ∷ []) new
-  one_more limit r wish [] text old mid new same turn = (new, subst (λ (w : World). TakesTurn limit r wish w new text) same turn, refl)
+  pub one_more : (limit r : ℕ) (wish : Wish) (texts : List (List ℕ)) (text : List ℕ) (old mid new : World) → TakesMeetingTurns limit r wish old texts mid → TakesMeetingTurn limit r wish mid new text
+      → TakesMeetingTurns limit r wish old (texts ++ text ∷ []) new
+  one_more limit r wish [] text old mid new same turn = (new, subst (λ (w : World). TakesMeetingTurn limit r wish w new text) same turn, refl)
   one_more limit r wish (first ∷ texts) text old mid new (between, now, more) turn = (between, now, one_more limit r wish texts text between mid new more turn)
 
   -- one went on and then the other
@@ -142,7 +142,7 @@ module _ {S : Type 0} (g : Ghosts S) where
 
   -- whether or not it moved
   pub made_of : (wish : Wish) (text : List ℕ) (old new : Held S) → PlacedTurn wish text old new → TurnMade g wish text old new
-  made_of wish text old new turn = goes_so _ (λ r world next. TakesTurn MAX_ENTRIES r wish world next text) old new turn (λ r world next t. t.0)
+  made_of wish text old new turn = goes_so _ (λ r world next. TakesMeetingTurn MAX_ENTRIES r wish world next text) old new turn (λ r world next t. t.0)
 
   moved_so : (moved : Bool) (before its after last : Position) → before ≡ its → after ≡ last → (moved ≡ false → after.version ≡ before.version) → (moved ≡ true → after.version ≢ before.version)
       → HasMoved moved its last
@@ -153,7 +153,7 @@ module _ {S : Type 0} (g : Ghosts S) where
       → (moved ≡ false → new.replica.position.version ≡ old.replica.position.version) → (moved ≡ true → new.replica.position.version ≢ old.replica.position.version)
       → TurnTo g moved wish text old new
   turned_to moved wish text old new turn still other =
-      goes_so _ (λ r world next. (turn : TakesTurn MAX_ENTRIES r wish world next text) × HasMoved moved turn.before.position turn.after.position) old new turn (λ r world next t. (
+      goes_so _ (λ r world next. (turn : TakesMeetingTurn MAX_ENTRIES r wish world next text) × HasMoved moved turn.before.position turn.after.position) old new turn (λ r world next t. (
         t.0,
         moved_so moved old.replica.position t.0.before.position new.replica.position t.0.after.position t.1 t.2 still other,
       ))

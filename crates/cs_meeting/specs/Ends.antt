@@ -16,7 +16,7 @@ use Rattle.cs_text.specs.Text.{line}
 use Rattle.cs_value.specs.declared.catalog.TableDef.{TableDef}
 use Rattle.cs_world.specs.World.{World}
 use Rattle.cs_meeting.specs.Held.{GoesOn, Held}
-use Rattle.cs_meeting.specs.Turns.{Meets, TakesTurns}
+use Rattle.cs_meeting.specs.Turns.{Meets, TakesMeetingTurns}
 use Rattle.cs_meeting.specs.declared.fault.MeetingFault.{MeetingFault}
 use Rattle.cs_meeting.specs.declared.fault.MeetingFault.TheVariants as fault
 
@@ -40,8 +40,8 @@ module _ {S : Type 0} (g : Ghosts S) (tables : List TableDef) (id : ℕ) where
     pub was_honest : g.honest opened.store → g.honest store
     pub is_opened : g.honest opened.store → IsStoreOpened tables id (g.contents store) (g.contents opened.store) opened.position
 
-  -- both were opened over their stores. Each sound world that these then showed, of which the replica is number `id`, went on so, and the
-  -- stores show it in the end
+  -- both were opened over their stores. Each sound world that these then showed, of which the replica is number `id`, went on so,
+  -- and the stores show it in the end
   pub record Met (step : World → World → Type 0) (hub_store hub_last store last : S) (position : Position) : Type 0 where
     pub first : Held S
     pub end : Held S
@@ -63,7 +63,7 @@ module _ {S : Type 0} (g : Ghosts S) (tables : List TableDef) (id : ℕ) where
   abbrev pub EndsEarly : Wish → S → S → S → S → Type 0 → Option (List ℕ) → Option (List ℕ) → MeetingFault → Type 0
   EndsEarly wish hub_store hub_last store last write_failed old new why =
       (told : List (List ℕ)) × (untold : List (List ℕ)) × (text : List ℕ) × (position : Position)
-      × Met (λ world next. TakesTurns MAX_ENTRIES id wish world (told ++ untold) next) hub_store hub_last store last position
+      × Met (λ world next. TakesMeetingTurns MAX_ENTRIES id wish world (told ++ untold) next) hub_store hub_last store last position
       × IsCutText why untold text (line (replica_text position.id position)) × BreaksOff why write_failed old new (printed told) text
 
   -- they met; or it ended early; or the hub or the replica isn't opened, and nothing was printed

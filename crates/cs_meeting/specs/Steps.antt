@@ -23,7 +23,7 @@ use Rattle.cs_world.specs.declared.outcome.Outcome.TheVariants.{NotPushed, Sent}
 use Rattle.cs_meeting.specs.Asks.{asked_event}
 use Rattle.cs_meeting.specs.Ends.{BreaksOff, IsCutText}
 use Rattle.cs_meeting.specs.Held.{AreHonest, GoesOn, Held, StandsIn}
-use Rattle.cs_meeting.specs.Turns.{Meets, SaysServed, TakesTurn, TakesTurns, Turns}
+use Rattle.cs_meeting.specs.Turns.{IsMeetingTurn, Meets, SaysServed, TakesMeetingTurn, TakesMeetingTurns}
 use Rattle.cs_meeting.specs.declared.ask.Ask.{Ask}
 use Rattle.cs_meeting.specs.declared.fault.MeetingFault.{MeetingFault}
 use Rattle.cs_meeting.specs.declared.fault.MeetingFault.TheVariants as fault
@@ -68,15 +68,15 @@ module _ {S : Type 0} (g : Ghosts S) where
 
   abbrev pub MakesTurn : Ask → List Wish → Result Reply AllocError → Held S → Held S → Type 0
   MakesTurn ask wishes result old new =
-      (text : List ℕ) × Says result text × Goes (λ r world next. Turns r wishes MAX_ENTRIES ask world next text) old new
+      (text : List ℕ) × Says result text × Goes (λ r world next. IsMeetingTurn r wishes MAX_ENTRIES ask world next text) old new
 
   -- a turn, and whether it left the replica at its version
   abbrev pub TurnTo : Bool → Wish → List ℕ → Held S → Held S → Type 0
   TurnTo moved wish text old new =
-      Goes (λ r world next. (turn : TakesTurn MAX_ENTRIES r wish world next text) × HasMoved moved turn.before.position turn.after.position) old new
+      Goes (λ r world next. (turn : TakesMeetingTurn MAX_ENTRIES r wish world next text) × HasMoved moved turn.before.position turn.after.position) old new
 
   abbrev pub TurnMade : Wish → List ℕ → Held S → Held S → Type 0
-  TurnMade wish text old new = Goes (λ r world next. TakesTurn MAX_ENTRIES r wish world next text) old new
+  TurnMade wish text old new = Goes (λ r world next. TakesMeetingTurn MAX_ENTRIES r wish world next text) old new
 
   -- and its text was printed; or memory was refused for the wishes, and nothing done
   abbrev pub TurnTold : Wish → Result Bool MeetingFault → Type 0 → Option (List ℕ) → Option (List ℕ) → Held S → Held S → Type 0
@@ -92,7 +92,7 @@ module _ {S : Type 0} (g : Ghosts S) where
       (texts : List (List ℕ)) × Goes (λ r world next. Meets MAX_ENTRIES r wish at_rest world texts next) old new × Appends before after (printed texts)
   AllMet wish (Err why) write_failed before after old new =
       (told : List (List ℕ)) × (untold : List (List ℕ)) × (text : List ℕ)
-      × Goes (λ r world next. TakesTurns MAX_ENTRIES r wish world (told ++ untold) next) old new
+      × Goes (λ r world next. TakesMeetingTurns MAX_ENTRIES r wish world (told ++ untold) next) old new
       × ((untold ≡ text ∷ []) ⊎ ((untold ≡ []) × (why ≡ fault.Memory))) × BreaksOff why write_failed before after (printed told) text
 
   -- and where the replica then stands
@@ -102,7 +102,7 @@ module _ {S : Type 0} (g : Ghosts S) where
       × Appends before after (printed (texts ++ line (replica_text new.replica.position.id new.replica.position) ∷ []))
   MetTold wish (Err why) write_failed before after old new =
       (told : List (List ℕ)) × (untold : List (List ℕ)) × (text : List ℕ)
-      × Goes (λ r world next. TakesTurns MAX_ENTRIES r wish world (told ++ untold) next) old new
+      × Goes (λ r world next. TakesMeetingTurns MAX_ENTRIES r wish world (told ++ untold) next) old new
       × IsCutText why untold text (line (replica_text new.replica.position.id new.replica.position)) × BreaksOff why write_failed before after (printed told) text
 
 -- a text is printed, or a front of it where the writer failed, or nothing

@@ -1,10 +1,11 @@
 //! Why a meeting ends early.
 
 ghost use Rattle.std.specs.Prelude.{◌≡◌};
-ghost use Rattle.cs_meeting.specs.declared.fault.MeetingFault.TheVariants.{Memory as NoMemory};
+ghost use Rattle.cs_meeting.specs.declared.fault.MeetingFault.TheVariants.{Memory as NoMemory, Write as NotWritten};
 
 use cs_opening::OpenFault;
 use std::alloc::{AllocError, AllocFailed};
+use std::io;
 use thiserror::Error;
 
 /// Why a meeting ended before its time. What was done stays done. The text is what is told of it behind `sync: `.
@@ -21,6 +22,14 @@ pub enum MeetingFault {
     /// The replica isn't opened.
     #[error("{0}")]
     Replica(OpenFault),
+}
+
+impl From<io::Error> for MeetingFault {
+    ghost from_gives = { λ _ fault. fault ≡ NotWritten };
+
+    fn from(_error: io::Error) -> MeetingFault {
+        MeetingFault::Write
+    }
 }
 
 impl From<AllocError> for MeetingFault {

@@ -115,7 +115,8 @@ impl<S: RowStore> Meeting<S> {
         )
     }
 
-    /// Takes a turn: the replica asks, the hub answers, and the replica hears the answer by these wishes. Gives what is printed of it.
+    /// Takes a turn: the replica asks, the hub answers, and the replica hears the answer by these wishes. Gives what is printed
+    /// of it.
     pub(crate) fn turn(
         &mut self,
         catalog: &Catalog,

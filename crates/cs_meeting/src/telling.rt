@@ -36,14 +36,9 @@ impl<S: RowStore> Meeting<S> {
     {
         let version = self.replica.version();
         let wishes = self.wishes(wish)?;
-        let reply = match self.turn(catalog, ask, wishes.as_slice()) {
-            Ok(reply) => reply,
-            Err(_) => return Err(MeetingFault::Memory),
-        };
-        match write_reply(writer, &reply) {
-            Ok(()) => Ok(self.has_moved(version)),
-            Err(_) => Err(MeetingFault::Write),
-        }
+        let reply = self.turn(catalog, ask, wishes.as_slice())?;
+        write_reply(writer, &reply)?;
+        Ok(self.has_moved(version))
     }
 
     /// Whether the replica is at another version than this.
@@ -84,14 +79,10 @@ impl<S: RowStore> Meeting<S> {
         ensures sent { OnOk result (W.sent writer.new) }
     {
         let text = place_of(self.alloc, &self.replica)?;
-        match write_reply(writer, &Reply::Text(text)) {
-            Ok(()) => Ok(()),
-            Err(_) => Err(MeetingFault::Write),
-        }
+        write_reply(writer, &Reply::Text(text))?;
+        Ok(())
     }
-}
 
-impl<S: RowStore> Meeting<S> {
     /// Takes turns, and prints where the replica stands in the end.
     fn told_meeting<W: LineOutput>(
         &mut self,
@@ -113,16 +104,17 @@ impl<S: RowStore> Meeting<S> {
     }
 }
 
-/// Opens the hub of these tables over a store, and the replica with this id over another, and has them meet: turn by turn the replica asks,
-/// the hub answers, and the replica takes the answer. It asks for entries until it is at the newest version, and then has its own changes
-/// taken. At each clash the same is wished, made lawful. What became of each turn is printed and sent before the next, and in the end where the
-/// replica stands. Tells whether it is at rest then: at the newest version, with nothing of its own. Else a turn left it at its version, as
-/// where a wish stopped or the hub refused something, or there were `TURNS`. An id is at most 4,294,967,294. Both stores come back in any case.
+/// Opens the hub of these tables over a store, and the replica with this id over another, and has them meet: turn by turn the
+/// replica asks, the hub answers, and the replica takes the answer. It asks for entries until it is at the newest version, and
+/// then has its own changes taken. At each clash the same is wished, made lawful. What became of each turn is printed and sent
+/// before the next, and in the end where the replica stands. Tells whether it is at rest then: at the newest version, with
+/// nothing of its own. Else a turn left it at its version, as where a wish stopped or the hub refused something, or there were
+/// `TURNS`. An id is at most 4,294,967,294. Both stores come back in any case.
 ///
 /// # Errors
 ///
-/// `Hub` and `Replica` where one isn't opened: then nothing is printed, and its store holds what it held. `Write`, and `Memory`: what was done
-/// stays done.
+/// `Hub` and `Replica` where one isn't opened: then nothing is printed, and its store holds what it held. `Write`, and `Memory`:
+/// what was done stays done.
 pub fn meet<S: RowStore, W: LineOutput>(
     alloc: Global,
     hub_store: S,

@@ -1,7 +1,8 @@
--- Why no store is opened at a path.
-use Rattle.std.proofs.Common.{◌≡◌, ◌⊎◌, inl, inr, Option, None, IsTrue, IfSome, sym, ◌∙◌, arith}
+-- What a store holds that is opened in files, and why none is opened at a path.
+use Rattle.std.proofs.Common.{◌≡◌, ◌⊎◌, inl, inr, Option, None, IsTrue, IfSome, ap, sym, subst, ◌∙◌, arith}
 use Rattle.std.proofs.lemmas.Option.{IfSome_then}
-use Rattle.sqlite.specs.Files.{FailsToOpenFiles, IsCleanLeft, IsOpened, LeavesFiles, file_state, over_files}
+use Rattle.sqlite.specs.Effect.{Database}
+use Rattle.sqlite.specs.Files.{AreFoundIn, FailsToOpenFiles, IsCleanLeft, IsOpened, LeavesFiles, file_state, over_files}
 use Rattle.sqlite.specs.Held.{Held, IsNew}
 use Rattle.sqlite.specs.Opening.{is_open_error}
 use Rattle.sqlite.specs.Recovery.{Image}
@@ -17,8 +18,8 @@ use Rattle.sqlite_store.specs.declared.store.FileStore.{FileStore}
 use Rattle.cs_store.specs.declared.fault.StoreFault.{StoreFault}
 use Rattle.cs_store.specs.declared.fault.StoreFault.TheVariants.{Device, Memory}
 use Rattle.cs_sql.specs.Causes.{EngineFails}
-use Rattle.cs_sql.specs.Keeping.{IsGivenBack, ShowsForeign}
-use Rattle.cs_sql.specs.Opening.{IsUnadopted, IsUnopened}
+use Rattle.cs_sql.specs.Keeping.{IsGivenBack, Kept, ShowsForeign, holds}
+use Rattle.cs_sql.specs.Opening.{IsOpenedAt, IsUnadopted, IsUnopened, OpenedHolds}
 
 never_memory : (error : Error) (fault : StoreFault) → (error ≡ SqliteFailure OutOfMemory → fault ≡ Memory) → fault ≡ Device → ¬ (error ≡ SqliteFailure OutOfMemory)
 never_memory error fault memory told is = let same : Memory ≡ Device = sym (memory is) ∙ told in absurd cc
@@ -43,3 +44,17 @@ module _ {D : Type 0} {g : disk.Ghosts D} where
   unadopted_told image conn given fault fresh opened found back why told =
       let earlier : HasCleanDisk (file_state given) → HasCleanDisk (file_state conn) = λ clean. let was = back.survives.clean in omega (arith, clean, was) in
       record { conn = conn; given = given; fresh = fresh; opened = λ clean. opened (earlier clean); found = λ clean. found (earlier clean); why = λ clean. why clean told }
+
+  -- what it holds is what the files held
+  pub opened_holds : (image : Image) (s : Kept (FileStore D g)) → IsOpenedAt image s → OpenedHolds image (holds over_files s)
+  opened_holds image s it =
+      let start = file_state it.conn in
+      let shown : start.now.trees ≡ start.committed.trees = ap (λ (d : Database). d.trees) it.opened.0.clean in (
+        start.now,
+        record {
+          sound = (it.opened.1 it.opened.0.is_open).0;
+          holds = λ trees held. shown ∙ it.found.holds trees held;
+          reads = subst (AreFoundIn image) (sym shown) it.found.reads;
+        },
+        it.adopted.from,
+      )

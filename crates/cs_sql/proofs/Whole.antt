@@ -35,7 +35,7 @@ use Rattle.cs_sql.specs.statements.Steps.{HasBatch, IsReady, IsWritten, Stays, w
 use Rattle.cs_sql.specs.declared.statements.counting.LogFound.{LogFound}
 use Rattle.cs_sql.specs.statements.Found.{IsFrontKept, IsFrontOf, IsLogOf, IsStoreOf, IsUntouched, front_in}
 use Rattle.cs_sql.specs.Causes.{EngineFails, IsCaused}
-use Rattle.cs_sql.specs.Keeping.{Kept, IsSteady, IsFresh, IsAdopted, IsAt, IsGivenBack, IsHeldIn, IsMadeOf, IsToldAs, LeavesHeld, LeavesStore, MayLeave, OpenAsStore, ShowsForeign, count_with, holds, made_over}
+use Rattle.cs_sql.specs.Keeping.{Kept, IsSteady, IsFresh, IsAdopted, IsAt, IsGivenBack, IsHeldIn, IsMadeOf, IsToldAs, LeavesHeld, LeavesStore, MayLeave, OpenAsStore, ShowsForeign, ShowsStore, count_with, holds, made_over}
 use Rattle.cs_sql.proofs.CauseLemmas.{fails_later}
 use Rattle.cs_sql.proofs.OneSchema.{shows_same, shows_store}
 use Rattle.cs_sql.proofs.StatementsLemmas.Adopting.{front_some, store_apart, store_some}
@@ -93,6 +93,18 @@ settled_leaves s log opened live ready is leaves trees left =
     let same : s.now ≡ store_over s.now.trees = λ i. record { schema = ready.kept.schema i; trees = s.now.trees } in
     let kept : AreKept s.now.trees = record { sound = subst IsDatabase same (live opened).0; kept = subst IsKept same ready.kept } in
     subst OpenAsStore (sym (leaves trees left ∙ ap (λ (d : Database). d.trees) ready.settled)) (record { kept = kept; log = log; log_is = is })
+
+-- a store that is closed
+pub closed_shows : {S : Type 0} (g : Ghosts S) (conn last : Held S) (log : LogFound) → IsSteady g conn last log → IsLive (state g conn) → HasCleanDisk (state g conn) → IsTrue (state g conn).is_open
+    → ShowsStore (contents_in (state g last).now.trees) (state g conn)
+closed_shows g conn last log steady live clean opened =
+    let ready = steady.ready clean opened in
+    let held : contents_in (state g conn).now.trees ≡ contents_in (state g last).now.trees = steady.same clean opened in
+    let same : (state g conn).now ≡ store_over (state g conn).now.trees = λ i. record { schema = ready.kept.schema i; trees = (state g conn).now.trees } in
+    let kept : AreKept (state g conn).now.trees = record { sound = subst IsDatabase same (live opened).0; kept = subst IsKept same ready.kept } in
+    let is : IsLogOf (contents_in (state g conn).now.trees) log = subst (λ (k : Contents). IsLogOf k log) (sym held) (steady.log clean) in
+    let back : (state g conn).now.trees ≡ (state g conn).committed.trees = ap (λ (d : Database). d.trees) (sym ready.settled) in
+    record { settled = ready.settled; opens = subst OpenAsStore back (record { kept = kept; log = log; log_is = is }); held_is = sym held ∙ ap contents_in back }
 
 -- what a stop may leave of a commit opens as a store too
 module _ {S : Type 0} (g : Ghosts S) (old : Kept S) (conn : Held S) (batch : Batch) (next : LogFound) (steady : IsSteady g old.conn old.last old.log)

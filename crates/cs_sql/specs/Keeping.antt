@@ -58,6 +58,12 @@ pub record OpenAsStore (trees : Trees) : Type 0 where
 abbrev pub LeavesStore : State → Type 0
 LeavesStore s = (trees : Trees) → s.may_leave trees → OpenAsStore trees
 
+-- what a connection committed last is a store's database, which holds this, and nothing is under way
+pub record ShowsStore (held : Contents) (s : State) : Type 0 where
+  pub settled : s.committed ≡ s.now
+  pub opens : OpenAsStore s.committed.trees
+  pub held_is : held ≡ contents_in s.committed.trees
+
 module _ {S : Type 0} (g : Ghosts S) where
   abbrev pub holds : Kept S → Contents
   holds s = contents_in (state g s.last).now.trees
@@ -88,8 +94,8 @@ pub record IsAt (schema : Schema) (s : State) : Type 0 where
   pub settled : s.committed ≡ s.now
   pub schema_is : s.now.schema ≡ schema
 
--- what a store over the database holds: nothing where it has no table, what a store's front holds, or what a store holds. No store
--- is made over a database that is none of these
+-- what a store over the database holds: nothing where it has no table, what a store's front holds, or what a store holds. No
+-- store is made over a database that is none of these
 abbrev pub IsHeldIn : Database → Contents → Type 0
 IsHeldIn db held =
     (IsFound Fresh db × (held ≡ nothing))

@@ -1,16 +1,20 @@
--- The laws of a store in SQLite. What it holds where it is made over a database is one, and what a database is found to be is one.
--- What a stop leaves of a store opens as one.
-use Rattle.std.specs.Prelude.{◌≡◌}
+-- The laws of a store in SQLite. What it holds where it is made over a database is one, and what a database is found to be is
+-- one. What a stop leaves of a store opens as one, and so do the files that a close leaves.
+use Rattle.std.specs.Prelude.{◌≡◌, []}
 use Rattle.sqlite.specs.Effect.{Database, IsDatabase}
+use Rattle.sqlite.specs.Files.{HoldsDatabase}
+use Rattle.sqlite.specs.Recovery.{Image}
 use Rattle.sqlite.specs.Store.{Ghosts}
 use Rattle.sqlite.specs.Held.{state}
 use Rattle.sqlite.specs.State.{State, HasCleanDisk}
-use Rattle.cs_store.specs.Contents.{Contents}
+use Rattle.sqlite.specs.Tree.{Trees}
+use Rattle.cs_store.specs.Contents.{Contents, nothing}
 use Rattle.cs_sql.specs.statements.Found.{IsFound}
 use Rattle.cs_sql.specs.declared.statements.counting.LogFound.{LogFound}
 use Rattle.cs_sql.specs.declared.statements.looking.Found.{Found}
 use Rattle.cs_sql.specs.declared.statements.looking.Found.TheVariants.{Foreign, Ours}
 use Rattle.cs_sql.specs.Keeping.{IsAdopted, IsHeldIn, Kept, MayLeave, holds}
+use Rattle.cs_sql.specs.Opening.{HoldStore, OpenedHolds}
 
 -- a store holds one thing of what a database shows
 abbrev pub OneIsHeld : Type 0
@@ -34,6 +38,18 @@ OneIsFound = (db : Database) (some other : Found) → IsFound some db → IsFoun
 -- no database is none of them
 abbrev pub SomeIsFound : Type 0
 SomeIsFound = (db : Database) → ¬ ((found : Found) → ¬ IsFound found db)
+
+-- stores that are opened in files that hold a database hold one thing
+abbrev pub OneIsOpened : Type 0
+OneIsOpened = (image : Image) (trees : Trees) (some other : Contents) → ∥ HoldsDatabase image trees ∥₁ → OpenedHolds image some → OpenedHolds image other → some ≡ other
+
+-- a store that is opened in files that hold a store's database holds what that holds
+abbrev pub FilesOpenAgain : Type 0
+FilesOpenAgain = (image : Image) (held found : Contents) → HoldStore image held → OpenedHolds image found → found ≡ held
+
+-- one that is opened in a database file without bytes holds nothing, whatever log stands beside it
+abbrev pub EmptyOpensToNothing : Type 0
+EmptyOpensToNothing = (image : Image) (held : Contents) → image.db ≡ [] → OpenedHolds image held → held ≡ nothing
 
 -- the database is found to be a store's and nothing else, and what a store over it holds is this
 pub record OpensAs (left : Contents) (db : Database) : Type 0 where

@@ -1,11 +1,13 @@
 -- A store in the files at a path.
 use Rattle.std.specs.Prelude.{◌≡◌, ◌≢◌, ◌⊎◌, Option, None, Result, IsTrue, IfErr, IfSome}
 use Rattle.sqlite.specs.Held.{Held, IsNew}
-use Rattle.sqlite.specs.Files.{FailsToOpenFiles, IsCleanLeft, IsOpened, file_state, over_files}
+use Rattle.sqlite.specs.Effect.{Database, IsDatabase}
+use Rattle.sqlite.specs.Files.{AreFoundIn, FailsToOpenFiles, HoldsDatabase, IsCleanLeft, IsOpened, file_state, over_files}
 use Rattle.sqlite.specs.Opening.{is_open_error}
 use Rattle.sqlite.specs.Start.{FindsIn}
 use Rattle.sqlite.specs.State.{HasCleanDisk}
 use Rattle.sqlite.specs.Recovery.{Image}
+use Rattle.sqlite.specs.Tree.{Trees}
 use Rattle.sqlite.specs.declared.error.Error.{Error}
 use Rattle.sqlite.specs.declared.error.Error.TheVariants.{SqliteFailure}
 use Rattle.sqlite.specs.declared.error.ErrorCode.TheVariants.{CannotOpen, DatabaseBusy, OutOfMemory}
@@ -13,16 +15,36 @@ use Rattle.sqlite.specs.declared.file.Leftover.{Leftover}
 use Rattle.sqlite_disk.specs.declared.Disk as disk
 use Rattle.sqlite_disk.specs.declared.Files.{Files}
 use Rattle.sqlite_store.specs.declared.store.FileStore.{FileStore}
+use Rattle.cs_store.specs.Contents.{Contents}
 use Rattle.cs_store.specs.declared.fault.StoreFault.{StoreFault}
 use Rattle.cs_store.specs.declared.fault.StoreFault.TheVariants.{Device}
 use Rattle.cs_sql.specs.Causes.{EngineFails}
-use Rattle.cs_sql.specs.Keeping.{IsAdopted, Kept, ShowsForeign}
+use Rattle.cs_sql.specs.Keeping.{IsAdopted, IsHeldIn, Kept, OpenAsStore, ShowsForeign}
+use Rattle.cs_sql.specs.statements.Tables.{contents_in}
 
--- the store holds what the files held, as an open found it
-abbrev pub IsOpenedAt : {D : Type 0} {g : disk.Ghosts D} → Image → Kept (FileStore D g) → Type 0
-IsOpenedAt {D} {g} image s = (conn : Held (FileStore D g)) × FindsIn image (file_state conn) × IsAdopted over_files (file_state conn) s
+-- the store holds what the files held, as a connection that was opened in them found it
+pub record IsOpenedAt {D : Type 0} {g : disk.Ghosts D} (image : Image) (s : Kept (FileStore D g)) : Type 0 where
+  pub conn : Held (FileStore D g)
+  pub opened : IsOpened conn
+  pub found : FindsIn image (file_state conn)
+  pub adopted : IsAdopted over_files (file_state conn) s
 
--- the engine's answer where it opened no connection, and memory was not what it lacked. It got no files, or tells what they held or what became of them
+-- a connection that is opened in the files shows this database: the one that they hold, if they hold one
+pub record OpenedShows (image : Image) (db : Database) : Type 0 where
+  pub sound : IsDatabase db
+  pub holds : (trees : Trees) → HoldsDatabase image trees → db.trees ≡ trees
+  pub reads : AreFoundIn image db.trees
+
+-- a store that is opened in the files holds this
+abbrev pub OpenedHolds : Image → Contents → Type 0
+OpenedHolds image held = (db : Database) × OpenedShows image db × IsHeldIn db held
+
+-- the files hold a store's database, which holds this
+abbrev pub HoldStore : Image → Contents → Type 0
+HoldStore image held = (trees : Trees) × ∥ HoldsDatabase image trees ∥₁ × OpenAsStore trees × (held ≡ contents_in trees)
+
+-- the engine's answer where it opened no connection, and memory was not what it lacked. It got no files, or tells what they held
+-- or what became of them
 pub record IsUnopened {D : Type 0} (g : disk.Ghosts D) : Type 0 where
   pub error : Error
   pub left : Option (Leftover D g)

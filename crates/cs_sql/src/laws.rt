@@ -1,11 +1,30 @@
 //! The laws of a store in SQLite, each the contract of a function that does nothing.
 
 ghost use Rattle.sqlite.specs.Held.{state};
-ghost use Rattle.cs_sql.specs.Laws.{LeftOpens, NoneIsForeign, OneIsAdopted, OneIsFound, OneIsHeld, SomeIsFound};
+ghost use Rattle.cs_sql.specs.Laws.{EmptyOpensToNothing, FilesOpenAgain, LeftOpens, NoneIsForeign, OneIsAdopted, OneIsFound, OneIsHeld, OneIsOpened, SomeIsFound};
 
 use crate::SqlStore;
 use crate::schema::laws::judgements;
 use sqlite::{Alter, Connection};
+
+/// Stores that are opened in files that hold a database hold one thing.
+pub fn one_is_opened()
+    ensures { OneIsOpened }
+{
+    one_is_held();
+}
+
+/// A store that is opened in files that hold a store's database holds what that holds.
+pub fn files_open_again()
+    ensures { FilesOpenAgain }
+{
+    one_is_held();
+}
+
+/// A store that is opened in a database file without bytes holds nothing.
+pub fn empty_opens_to_nothing()
+    ensures { EmptyOpensToNothing }
+{}
 
 /// What a store holds of a database is one.
 pub fn one_is_held()

@@ -1,7 +1,7 @@
 //! A store over a connection.
 
 ghost use Rattle.std.specs.Prelude.{◌≡◌, ◌⊎◌, ◌<◌, ◌^◌, false, IfErr, IfOk, IfSome, IsTrue};
-ghost use Rattle.sqlite.specs.Files.{file_state};
+ghost use Rattle.sqlite.specs.Files.{file_state, over_files};
 ghost use Rattle.sqlite.specs.Held.{state};
 ghost use Rattle.sqlite.specs.State.{HasCleanDisk, Survives};
 ghost use Rattle.sqlite.specs.Steps.{over_memory};
@@ -13,8 +13,8 @@ ghost use Rattle.cs_sql.specs.statements.Tables.{contents_in};
 ghost use Rattle.cs_sql.specs.statements.Steps.{IsReady};
 ghost use Rattle.cs_sql.specs.statements.Found.{IsFrontKept, IsLogOf, front_in};
 ghost use Rattle.cs_sql.specs.Causes.{EngineFails};
-ghost use Rattle.cs_sql.specs.Keeping.{IsAdopted, IsAt, IsFresh, IsGivenBack, IsMadeOf, IsToldAs, LeavesHeld, LeavesStore, ShowsForeign, count_with, made_over};
-ghost use Rattle.cs_sql.specs.Opening.{IsOpenedAt, TellsWhy};
+ghost use Rattle.cs_sql.specs.Keeping.{IsAdopted, IsAt, IsFresh, IsGivenBack, IsMadeOf, IsToldAs, LeavesHeld, LeavesStore, ShowsForeign, ShowsStore, count_with, holds, made_over};
+ghost use Rattle.cs_sql.specs.Opening.{IsOpenedAt, OpenedHolds, TellsWhy};
 
 use crate::schema::{complete, lay_out};
 use crate::statements::{
@@ -203,11 +203,16 @@ impl<A: Alter> SqlStore<A> {
         let _ = &self.conn;
     }
 
-    /// The connection, as it is.
+    /// The connection, as it is and in no transaction. Where its disk is clean and it is open, what it committed last is a
+    /// store's database that holds what the store held. So its files, once they are closed, open as a store that holds that
+    /// (`laws::files_open_again`).
     pub fn close(self) -> Connection<A>
         ensures same { result ≡ self.conn }
+        ensures idle { result.in_transaction ≡ false }
+        ensures shows { HasCleanDisk (state A.Store result) → IsTrue (state A.Store result).is_open → ShowsStore (holds A.Store self) (state A.Store result) }
         ensures opens { HasCleanDisk (state A.Store result) → LeavesStore (state A.Store result) }
     {
+        let _ = self.conn.schema();
         self.conn
     }
 }
@@ -225,6 +230,7 @@ impl<S: Start> SqlStore<FileStore<FileFrom<S>>> {
         start: S,
     ) -> Result<SqlStore<FileStore<FileFrom<S>>>, StoreFault>
         ensures opened { IfOk result (λ s. HasCleanDisk (file_state s.conn) → IsOpenedAt (image_at S.Start) s) }
+        ensures holds { IfOk result (λ s. HasCleanDisk (file_state s.conn) → OpenedHolds (image_at S.Start) (holds over_files s)) }
         ensures cause { TellsWhy (image_at S.Start) result }
     {
         match Connection::open_from(rt, path, false, start) {

@@ -23,8 +23,8 @@ use Rattle.sync_cli.specs.Streams.{Streams}
 use Rattle.sync_cli.specs.declared.fault.RunFault.{RunFault}
 use Rattle.sync_cli.specs.declared.fault.RunFault.TheVariants.{CommandLine, Table, Memory, Read, Write}
 
--- the status of an end: 0 where all was done. It is 1 where the input or memory was refused or a read or write failed, 2 where the command
--- line was
+-- the status of an end: 0 where all was done. It is 1 where the input or memory was refused or a read or write failed, 2 where
+-- the command line was
 abbrev pub status_of : Result ⊤ RunFault → ℕ
 status_of (Ok done) = 0
 status_of (Err CommandLine) = 2
@@ -55,8 +55,8 @@ abbrev pub EndsTool : Tool → Streams → Result ⊤ RunFault → Type 0
 EndsTool tool streams result =
     EndsAs of_tool (Ends (Owes tool streams.input streams.left) (Refuses tool streams.read_failed streams.input streams.left) streams.write_failed streams.old streams.new) result
 
--- a new hub of these tables answered all lines. Or it answered those before the one at which a read failed, or lines without end. Or a
--- write failed within the last answer, or memory was refused before it read
+-- a new hub of these tables answered all lines. Or it answered those before the one at which a read failed, or lines without end.
+-- Or a write failed within the last answer, or memory was refused before it read
 abbrev pub EndsServing : List TableDef → Streams → Result ⊤ RunFault → Type 0
 EndsServing tables streams (Ok done) =
     (lines : List (List ℕ)) × (answers : List (List ℕ)) × (end : HubState)
@@ -78,8 +78,8 @@ abbrev pub EndsWorld : ℕ → List TableDef → Streams → Result ⊤ RunFault
 EndsWorld count tables streams result =
     EndsAs of_script (EndsScript tables count streams.input streams.left streams.read_failed streams.write_failed streams.old streams.new) result
 
--- words that the command line doesn't take. Help was asked for and written, or a front of it, where the writer failed. Or the words were
--- refused, for one of the parser's reasons, or memory was
+-- words that the command line doesn't take. Help was asked for and written, or a front of it, where the writer failed. Or the
+-- words were refused, for one of the parser's reasons, or memory was
 abbrev pub EndsUntaken : Kinds → Streams → Result ⊤ RunFault → Type 0
 EndsUntaken kinds streams (Ok done) = IsAmong kind.DisplayHelp kinds × ((help : List ℕ) × Appends streams.old streams.new help)
 EndsUntaken kinds streams (Err Write) =

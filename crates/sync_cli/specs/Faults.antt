@@ -1,4 +1,5 @@
--- Faults of what the program wires together, as the run's. Want of memory and a failed read or write are told as such, whoever meets them.
+-- Faults of what the program wires together, as the run's. Want of memory and a failed read or write are told as such, whoever
+-- meets them.
 use Rattle.std.specs.Prelude.{⊤, Bool, true, false, Result, Ok, Err}
 use Rattle.cs_node_lines.specs.declared.asks.fault.ReadFault.{ReadFault}
 use Rattle.cs_node_lines.specs.declared.asks.fault.ReadFault.TheVariants as reading

@@ -26,7 +26,8 @@ use Rattle.sync_cli.specs.declared.opener.Opener.{Ghosts as Opening}
 
 -- `opener` opens stores in files
 module _ {O S : Type 0} (g : Ghosts S) (o : Opening O S) (opener : O) where
-  -- the store that was given for the path was taken back, and the run ended so over it. Or none was given, and nothing was written
+  -- the store that was given for the path was taken back, and the run ended so over it. Or none was given, and nothing was
+  -- written
   abbrev pub OverStore : List ℕ → (S → S → Type 0) → Streams → Result ⊤ RunFault → Type 0
   OverStore path Ends streams result =
       ((store : S) × (last : S) × o.gave opener path store × o.took opener last × Ends store last)
@@ -43,8 +44,8 @@ module _ {O S : Type 0} (g : Ghosts S) (o : Opening O S) (opener : O) where
   EndsHub (Some path) tables streams result =
       EndsServingFile path tables streams result
 
-  -- the input was read whole, and the replica with this id was worked by its lines over the store. Or it wasn't read, and no store was
-  -- opened
+  -- the input was read whole, and the replica with this id was worked by its lines over the store. Or it wasn't read, and no
+  -- store was opened
   abbrev pub EndsNodeFile : List ℕ → ℕ → List TableDef → Streams → Result ⊤ RunFault → Type 0
   EndsNodeFile path id tables streams result =
       ((asks : List Ask) × AreAllAsks tables streams.input asks
@@ -56,8 +57,8 @@ module _ {O S : Type 0} (g : Ghosts S) (o : Opening O S) (opener : O) where
   EndsFollowFile path id tables streams result =
       OverStore path (λ store last. EndsAs of_node (EndsFollowing g tables id store last (ended streams.input) (ended streams.left) streams.read_failed streams.write_failed streams.old streams.new) result) streams result
 
-  -- the hub and the replica with this id met over the stores that were given for the paths, which were taken back. Or one wasn't given, and
-  -- nothing was written
+  -- the hub and the replica with this id met over the stores that were given for the paths, which were taken back. Or one wasn't
+  -- given, and nothing was written
   abbrev pub EndsExchange : List ℕ → List ℕ → ℕ → Wish → List TableDef → Type 0 → Option (List ℕ) → Option (List ℕ) → Result ⊤ RunFault → Type 0
   EndsExchange hub path id wish tables write_failed old new result =
       ((hub_store : S) × (hub_last : S) × (store : S) × (last : S) × o.gave opener hub hub_store × o.gave opener path store

@@ -14,7 +14,8 @@ use cs_store::StoreFault;
 use cs_value::Catalog;
 use std::alloc::Global;
 
-/// Has the hub in the store for a file and the replica with this id in that for another meet, where the same is wished at each clash.
+/// Has the hub in the store for a file and the replica with this id in that for another meet, where the same is wished at each
+/// clash.
 pub fn exchange_files<'w, O: Opener, W: LineOutput>(
     alloc: Global,
     opener: &mut O,
@@ -56,7 +57,7 @@ fn unopened_hub<'w>(fault: StoreFault) -> RunFault<'w>
     }
 }
 
-// How the run ends where the meeting ended so.
+/// How the run ends where the meeting ended so.
 fn told_of<'w>(ended: Result<bool, MeetingFault>) -> Result<(), RunFault<'w>>
     ensures { result ≡ met_as ended }
 {

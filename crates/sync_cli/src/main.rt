@@ -1,15 +1,16 @@
 //! The program `sync`: a hub over memory or a file and a replica over a file, each worked by lines, or both over files that
 //! exchange what they have. It has also worlds that run scripts, and tools for changesets.
 //!
-//! It only wires `cs_command` for the command line, `cs_node_lines`, `cs_meeting`, `cs_script` and `cs_tools` for what is asked for, and
-//! `cs_map_store` and `cs_sql` for the stores. `run` carries the promise, end by end (`specs/Endings.antt`, `specs/OverFiles.antt`): what the words ask
-//! for was done, over the tables that they spell, or why not. The words that are refused are those that name no catalog or that the command
-//! line doesn't take. `tell_end` turns each end into its status.
+//! It only wires `cs_command` for the command line, `cs_node_lines`, `cs_meeting`, `cs_script` and `cs_tools` for what is asked
+//! for, and `cs_map_store` and `cs_sql` for the stores. `run` carries the promise, end by end (`specs/Endings.antt`,
+//! `specs/OverFiles.antt`): what the words ask for was done, over the tables that they spell, or why not. The words that are
+//! refused are those that name no catalog or that the command line doesn't take. `tell_end` turns each end into its status.
 //!
-//! `run`'s clauses stand over a reader and a writer whose bytes are known, as those of slices and vectors are. Standard input and output
-//! are none such in the toolchain, and `main`, which hands `run` the words and the streams, has no clause. What the built program reads and
-//! writes on files and pipes is shown by runs instead. These are the stored run (`stdin`, `stdout`), `bench/check_program.sh`,
-//! `bench/check_sessions.sh` and `bench/check_files.sh`. What names no section of SQLite's documentation is profile of this project.
+//! `run`'s clauses stand over a reader and a writer whose bytes are known, as those of slices and vectors are. Standard input and
+//! output are none such in the toolchain, and `main`, which hands `run` the words and the streams, has no clause. What the built
+//! program reads and writes on files and pipes is shown by runs instead. These are the stored run (`stdin`, `stdout`),
+//! `bench/check_program.sh`, `bench/check_sessions.sh` and `bench/check_files.sh`. What names no section of SQLite's
+//! documentation is profile of this project.
 #![tactic(auto)]
 
 mod exchange;

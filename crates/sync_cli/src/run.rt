@@ -25,8 +25,8 @@ use cs_tools::{Form, InputFiles, ToolFault, combine_files, run_tool, show_file};
 use std::alloc::Global;
 use std::convert::AsStr;
 
-/// Runs `sync` on its words, of which the first is the program's name. Stores in files and readers of files come from the opener. Where all was done, also where
-/// help was asked for, what was written is sent.
+/// Runs `sync` on its words, of which the first is the program's name. Stores in files and readers of files come from the opener.
+/// Where all was done, also where help was asked for, what was written is sent.
 pub fn run<'w, S: AsStr, O: Opener + InputFiles, R: LineInput, W: LineOutput>(
     alloc: Global,
     opener: &mut O,
@@ -41,8 +41,8 @@ pub fn run<'w, S: AsStr, O: Opener + InputFiles, R: LineInput, W: LineOutput>(
     ensures untaken { faults_of (map S.text words.entry.now) ≢ []
         → EndsUntaken (faults_of (map S.text words.entry.now)) (streams_of R.LineInput W.LineOutput reader.old reader.new writer.old writer.new) result }
 
-    // What the words ask for was done, or why not. A hub answered the lines, a world ran the script, or a replica was worked by the lines.
-    // Or a tool wrote what it owes for lines or files.
+    // What the words ask for was done, or why not. A hub answered the lines, a world ran the script, or a replica was worked by
+    // the lines. Or a tool wrote what it owes for lines or files.
     ensures asked { (asked : Wanted) → faults_of (map S.text words.entry.now) ≡ []
         → wanted_of (map S.text words.entry.now) ≡ Some asked
         → EndsAsked O.Store.RowStore O.Opener O.Input.PieceInput O.InputFiles opener.new

@@ -10,7 +10,7 @@ returns-in-Ok-serve_file c =
       answers = inl (
         made.texts.items,
         memory_bytes (inner_of made.file),
-        (c.in-Ok.catalog, c.in-Ok.ensures, c.in-Ok-serve_file.ensures.told, c.in-Ok-serve_file.ensures.made),
+        (c.in-Ok.catalog, c.in-Ok.ensures, c.in-Ok-serve_file.ensures.told),
         c.hand_both.ensures,
       );
     }

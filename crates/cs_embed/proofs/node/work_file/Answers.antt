@@ -5,7 +5,13 @@ use Rattle.cs_embed.proofs.node.work_file.Goals as goal
 
 pub returns-in-Ok-open_file-clause-told : goal.returns-in-Ok-open_file-clause-told
 returns-in-Ok-open_file-clause-told c =
-    if_ok c.work_store.result (λ made tells. (c.as_slice.result.now, rw c.as_slice.ensures.value c.in-Ok.ensures.read, tells)) c.work_store.ensures.told
+    if_ok c.work_store.result (λ made works. (
+      c.as_slice.result.now,
+      rw c.as_slice.ensures.value c.in-Ok.ensures.read,
+      c.in-Ok-open_file.store,
+      c.in-Ok-open_file.ensures.holds (works.worked.was_honest works.honest),
+      works,
+    )) c.work_store.ensures.told
 
 pub returns-in-Ok-open_file-clause-refused : goal.returns-in-Ok-open_file-clause-refused
 returns-in-Ok-open_file-clause-refused c = if_err c.work_store.result (λ answer is. inr is) c.work_store.ensures.refused

@@ -5,7 +5,7 @@ use Rattle.cs_embed.proofs.node.work_store.Goals as goal
 
 pub returns-in-Ok-ended-clause-told : goal.returns-in-Ok-ended-clause-told
 returns-in-Ok-ended-clause-told c =
-    asks_told _ c.args.catalog.now c.args.id c.args.asks.now c.args.store c.work_on-ended.result.1 _ c.new-texts.result.items c.work_on-ended.new.writer.items c.work_on-ended.result.0 _ c.new-texts.ensures.items c.in-Ok-ended.is c.in-Ok.ensures.clean c.work_on-ended.ensures.ends
+    asks_told _ c.args.catalog.now c.args.id c.args.asks.now c.args.store c.work_on-ended.result.1 _ c.new-texts.result.items c.work_on-ended.new.writer.items c.work_on-ended.result.0 _ _ c.new-texts.ensures.items c.in-Ok-ended.is c.in-Ok.ensures.clean c.in-Ok.ensures.holds c.work_on-ended.ensures.ends
 
 pub returns-in-Err-ended-clause-refused : goal.returns-in-Err-ended-clause-refused
 returns-in-Err-ended-clause-refused c =

@@ -4,12 +4,12 @@ use Rattle.cs_meeting.proofs.meeting.Meeting.told_turns.Goals as goal
 
 pub returns-in_default-clause-told : goal.returns-in_default-clause-told
 returns-in_default-clause-told g c =
-    met_rest g.S.RowStore c.args.wish c.loop-turn._turn (g.W.LineOutput.failed c.loop-turn.writer) (g.W.Write.contents c.args.writer.now) (g.W.Write.contents c.loop-turn.writer) c.args.self.now c.loop-turn.self
+    met_rest g.S.RowStore c.args.wish c.loop-turn._turn (omega arith) (g.W.LineOutput.failed c.loop-turn.writer) (g.W.Write.contents c.args.writer.now) (g.W.Write.contents c.loop-turn.writer) c.args.self.now c.loop-turn.self
     c.loop-turn.invariant.0 (sym c.next_ask.ensures ∙ c.in_default.is)
 
 pub returns-in-Ok-false-clause-told : goal.returns-in-Ok-false-clause-told
 returns-in-Ok-false-clause-told g c =
-    met_still g.S.RowStore c.args.wish c.loop-turn._turn (g.W.LineOutput.failed c.told_turn.new.writer) (g.W.Write.contents c.args.writer.now) (g.W.Write.contents c.loop-turn.writer) (g.W.Write.contents c.told_turn.new.writer)
+    met_still g.S.RowStore c.args.wish c.loop-turn._turn (omega arith) (g.W.LineOutput.failed c.told_turn.new.writer) (g.W.Write.contents c.args.writer.now) (g.W.Write.contents c.loop-turn.writer) (g.W.Write.contents c.told_turn.new.writer)
     c.args.self.now c.loop-turn.self c.told_turn.new.self c.loop-turn.invariant.0 (rw c.in-Ok-false.field-0-test at c.in-Ok-false.ensures.told)
 
 pub returns-in-Err-clause-told : goal.returns-in-Err-clause-told
