@@ -34,8 +34,9 @@ CITED = """
     cs_apply/src/applying.rt cs_blob/src/reading.rt cs_changeset/src/reading.rt cs_column_bytes/src/spelling.rt cs_conflict/src/chooser.rt
     cs_conflict/src/clash.rt cs_conflict/src/guard.rt cs_conflict/src/kind.rt cs_conflict/src/picker.rt cs_group/src/adding.rt
     cs_group/src/combining.rt cs_group/src/group.rt cs_group/src/inverting.rt cs_hub/src/hub.rt cs_meeting/src/telling.rt cs_nodes/src/books/book.rt
-    cs_nodes/src/meet.rt cs_nodes/src/node.rt cs_nodes/src/plans/ending.rt cs_pending/src/edits.rt cs_rebaser/src/rebaser.rt
-    cs_replica/src/replica.rt cs_spine/src/spine.rt cs_sql/src/store.rt cs_tools/src/tool.rt cs_widening/src/widening.rt sync_cli/src/run.rt
+    cs_nodes/src/meet.rt cs_nodes/src/node.rt cs_nodes/src/plans/ending.rt cs_padding/src/pending.rt cs_padding/src/rows.rt
+    cs_pending/src/edits.rt cs_rebaser/src/rebaser.rt cs_replica/src/replica.rt cs_spine/src/spine.rt cs_sql/src/store.rt cs_tools/src/tool.rt
+    cs_widening/src/widening.rt sync_cli/src/run.rt
 """.split()
 
 # Whose names in code font are names of the sources.

@@ -1,12 +1,12 @@
 #!/bin/sh
-# Refuses a test each of its allocations in turn, one in a run of its own: `refused_memory_leaves_everything` of the store
-# commits three times to the one in memory, that of widening makes a catalog, that of `apply` applies a changeset, that of the rebaser
-# rebases one, that of pending changes edits rows, that of pulls takes an entry and an answer, that of replicas opens one, edits it,
-# pushes and is told, that of a hub's log opens it, appends to it and tells it, that of the log that threads share makes one, offers and
-# sees, that of nodes makes two, edits, pushes and pulls, that of books asks two a push and a pull, that of worlds makes one and lets
-# things happen in it, and that of scripts plays one. Where that is refused, the test looks whether everything is as it was, and makes
-# the same call again. Each run has to pass.
-# Usage: bench/refuse_tests.sh store|widening|apply|rebaser|pending|pulling|replica|log_store|spine|nodes|books|world|script [built]
+# Refuses a test each of its allocations in turn, one in a run of its own: `refused_memory_leaves_everything` of the store commits three
+# times to the one in memory, that of widening makes a catalog, that of `apply` applies a changeset, that of the rebaser rebases one, that
+# of pending changes edits rows, that of padding gives a table more columns, that of pulls takes an entry and an answer, that of replicas
+# opens one, edits it, pushes and is told, that of a hub's log opens it, appends to it and tells it, that of the log that threads share
+# makes one, offers and sees, that of nodes makes two, edits, pushes and pulls, that of books asks two a push and a pull, that of worlds
+# makes one and lets things happen in it, and that of scripts plays one. Where that is refused, the test looks whether everything is as it
+# was, and makes the same call again. Each run has to pass.
+# Usage: bench/refuse_tests.sh store|widening|apply|rebaser|pending|padding|pulling|replica|log_store|spine|nodes|books|world|script [built]
 # With `built` the program of its tests is there, as `rt test` leaves it (crates/cs_stores_tests/out/cs_stores_tests_tests and so on);
 # else it is proved and built.
 set -eu
@@ -19,6 +19,7 @@ built="${2:-}"
 case "$tested" in
     store) crate=cs_stores_tests; module=store; least=400 ;;
     pending) crate=cs_stores_tests; module=pending; least=30 ;;
+    padding) crate=cs_stores_tests; module=padding; least=40 ;;
     widening) crate=cs_changes_tests; module=widening; least=12 ;;
     apply) crate=cs_operations_tests; module=apply; least=30 ;;
     rebaser) crate=cs_operations_tests; module=rebaser; least=30 ;;

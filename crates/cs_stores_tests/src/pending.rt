@@ -40,7 +40,7 @@ fn tables(alloc: Global) -> Result<Vec<TableDef>, AllocError> {
     Ok(tables)
 }
 
-fn catalog(alloc: Global) -> Option<Catalog> {
+pub(crate) fn catalog(alloc: Global) -> Option<Catalog> {
     Catalog::new(tables(alloc).ok()?).ok()
 }
 
@@ -111,28 +111,28 @@ fn make<S: RowStore>(
 }
 
 /// The key 1, and the key 2.
-const ONE: &[u8] = &[1, 0, 0, 0, 0, 0, 0, 0, 1];
+pub(crate) const ONE: &[u8] = &[1, 0, 0, 0, 0, 0, 0, 0, 1];
 
-const TWO: &[u8] = &[1, 0, 0, 0, 0, 0, 0, 0, 2];
+pub(crate) const TWO: &[u8] = &[1, 0, 0, 0, 0, 0, 0, 0, 2];
 
 /// The rows (1, 'x'), (1, 'y'), (2, 'b'), (2, 'c') and (2, 'd').
-const ONE_X: &[u8] = &[1, 0, 0, 0, 0, 0, 0, 0, 1, 3, 1, 0x78];
+pub(crate) const ONE_X: &[u8] = &[1, 0, 0, 0, 0, 0, 0, 0, 1, 3, 1, 0x78];
 
 const ONE_Y: &[u8] = &[1, 0, 0, 0, 0, 0, 0, 0, 1, 3, 1, 0x79];
 
 const TWO_B: &[u8] = &[1, 0, 0, 0, 0, 0, 0, 0, 2, 3, 1, 0x62];
 
-const TWO_C: &[u8] = &[1, 0, 0, 0, 0, 0, 0, 0, 2, 3, 1, 0x63];
+pub(crate) const TWO_C: &[u8] = &[1, 0, 0, 0, 0, 0, 0, 0, 2, 3, 1, 0x63];
 
 const TWO_D: &[u8] = &[1, 0, 0, 0, 0, 0, 0, 0, 2, 3, 1, 0x64];
 
 /// The INSERTs of (1, 'x') and (1, 'y').
-const INSERT_X: &[u8] = &[18, 0, 1, 0, 0, 0, 0, 0, 0, 0, 1, 3, 1, 0x78];
+pub(crate) const INSERT_X: &[u8] = &[18, 0, 1, 0, 0, 0, 0, 0, 0, 0, 1, 3, 1, 0x78];
 
 const INSERT_Y: &[u8] = &[18, 0, 1, 0, 0, 0, 0, 0, 0, 0, 1, 3, 1, 0x79];
 
 /// The UPDATEs of (2, 'b') to 'c' and to 'd', and its DELETE.
-const B_TO_C: &[u8] = &[23, 0, 1, 0, 0, 0, 0, 0, 0, 0, 2, 3, 1, 0x62, 0, 3, 1, 0x63];
+pub(crate) const B_TO_C: &[u8] = &[23, 0, 1, 0, 0, 0, 0, 0, 0, 0, 2, 3, 1, 0x62, 0, 3, 1, 0x63];
 
 const B_TO_D: &[u8] = &[23, 0, 1, 0, 0, 0, 0, 0, 0, 0, 2, 3, 1, 0x62, 0, 3, 1, 0x64];
 
@@ -162,7 +162,7 @@ fn store_of(alloc: Global, body: &[u8]) -> Result<MapStore, StoreFault> {
 }
 
 /// Whether these are the bytes, or there are none.
-fn are_bytes(found: Option<Vec<u8>>, wanted: Option<&[u8]>) -> bool {
+pub(crate) fn are_bytes(found: Option<Vec<u8>>, wanted: Option<&[u8]>) -> bool {
     match (found, wanted) {
         (None, None) => true,
         (Some(found), Some(wanted)) => found.as_slice() == wanted,

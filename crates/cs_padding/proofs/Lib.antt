@@ -1,0 +1,6 @@
+mod Changes
+mod Listings
+mod OneEdits
+mod Pended
+mod Sound
+mod Widened
