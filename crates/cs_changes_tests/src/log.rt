@@ -1,7 +1,8 @@
 //! Bodies of entries beside bytes that were written by hand, and entries.
 
 use crate::given::catalog;
-use cs_store::log::{Body, BodyFault, LogEntry, is_stored_body, put_body, read_body};
+use cs_store::Present;
+use cs_store::log::{Body, BodyFault, LogEntry, put_body, read_body};
 use cs_value::{Memory, Text};
 use std::alloc::Global;
 
@@ -24,10 +25,10 @@ fn stays(alloc: Global, bytes: &[u8]) -> Result<bool, BodyFault> {
     Ok(stored.as_slice() == bytes)
 }
 
-/// Whether the bytes are told to be a body.
+/// Whether the bytes are told to be the body of a log's first entry.
 fn told(alloc: Global, bytes: &[u8]) -> Option<bool> {
     let catalog = catalog(alloc)?;
-    is_stored_body(alloc, &catalog, bytes).ok()
+    Present::new(&catalog).judge_body(alloc, bytes).ok()
 }
 
 /// A body with a change, with two, and one without.

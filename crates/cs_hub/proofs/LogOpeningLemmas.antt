@@ -1,3 +1,4 @@
+pub mod Many
 pub mod Names
 pub mod First
 pub mod Listed

@@ -1,29 +1,32 @@
 -- What a check finds of all that a `MapStore` holds.
-use Rattle.std.proofs.Common.{◌≡◌, ℕ, zero, suc, ◌+◌, ◌<◌, Bool, true, false, cond, ◌&&◌, List, [], ◌∷◌, ◌++◌, Option, Some, None, refl, sym, ap, subst, ◌∙◌, T, length, get_or, take, fold, arith, IsTrue}
+use Rattle.std.proofs.Common.{◌≡◌, ℕ, zero, suc, ◌+◌, ◌<◌, Bool, true, false, cond, ◌&&◌, List, [], ◌∷◌, ◌++◌, Option, Some, None, refl, sym, ap, subst, ◌∙◌, T, length, get_or, take, drop, map, fold, arith, IsTrue}
 use Rattle.std.specs.Prelude.{ℤ, pos, ◌↔◌}
 use Rattle.std.specs.List.{AllByRecursion}
 use Rattle.std.specs.declared.cmp.Ordering.{Ordering}
 use Rattle.std.specs.declared.cmp.Ordering.TheVariants.{Less, Equal, Greater}
 use Rattle.std.specs.Ordering.{is_eq, is_lt, eq_by_cmp, int_cmp}
 use Rattle.std.specs.Cmp.{eq_by_cmp_equiv}
-use Rattle.std.specs.FinMap.{empty, get, find, get-empty, is_sorted, get-from_sorted, get-from_entries}
+use Rattle.std.specs.FinMap.{empty, get, len, find, get-empty, is_sorted, get-from_sorted, get-from_entries}
 use Rattle.std.specs.FinMap.Entries.{below_all}
 use Rattle.std.proofs.lemmas.Cmp.{int_cmp_total}
 use Rattle.std.proofs.lemmas.Map.Lookups.{exact_bytes}
 use Rattle.std.proofs.lemmas.Option.{same_Some}
-use Rattle.std.proofs.lemmas.List.{take_more, append-nil, append_assoc}
+use Rattle.std.proofs.lemmas.List.{take_more, take_all, drop_more, take-append-drop, map-append, append-nil, append_assoc}
 use Rattle.cs_value.specs.declared.catalog.TableDef.{TableDef}
 use Rattle.cs_order.specs.Order.{by_bytes}
 use Rattle.cs_store.specs.declared.batch.MetaEdit.{MetaEdit}
-use Rattle.cs_store.specs.Contents.{Bodies, LogItem, Meta, StorePlace, place_cmp, name_text}
+use Rattle.cs_store.specs.Contents.{Bodies, Contents, LogItem, Meta, StorePlace, log_count, place_cmp, name_text}
 use Rattle.cs_store.specs.Written.{edit_meta, optional_bytes}
-use Rattle.cs_store.specs.Whole.{AtTable, IsName, IsWhole, StoresBody, StoresChange, StoresRow}
+use Rattle.cs_store.specs.Whole.{AreJudged, AtTable, Decodes, IsName, IsWhole, StoresChange, StoresRow, log_bodies}
+use Rattle.cs_store.specs.WholeLaws.{BodiesInOrder, DecodesOn, OnePresent, RefusedOn}
+use Rattle.cs_value.specs.Catalog.{AreTables}
 use Rattle.cs_leaf.specs.Entries.{Entry}
 use Rattle.cs_map_store.specs.Leaves.{bodies_in, flat}
 use Rattle.cs_map_store.specs.Slots.{HasOwnNames, SlotKey, Slot, held_in, log_of, meta_of, numbered, shown}
 use Rattle.cs_map_store.proofs.Maps.{place_total, place_exact, get-with_meta}
 use Rattle.cs_map_store.proofs.Rising.{first, second}
-use Rattle.cs_map_store.proofs.Numbered.{log_has}
+use Rattle.cs_map_store.proofs.Numbered.{log_len}
+use Rattle.cs_map_store.proofs.Ranging.{each_is_there, range_is}
 
 -- ---- what a loop over a list has found
 
@@ -116,25 +119,36 @@ module _ (P : StorePlace → List ℕ → Type 0) where
 
 -- ---- the log
 
-module _ (P : List ℕ → Type 0) where
-  found_entry : (n : ℕ) (xs : List LogItem) → AllByRecursion (λ x. P x.body) xs → (version : ℤ) (item : LogItem) → find int_cmp version (numbered n xs) ≡ Some item → P item.body
-  found_entry n [] all version item is = let no : ◌≡◌ {A = Option LogItem} None (Some item) = is in absurd cc
-  found_entry n (x ∷ xs) all version item is =
-      elim (eq_by_cmp int_cmp version (pos n)) as (λ b. cond b (Some x) (find int_cmp version (numbered (n + 1) xs)) ≡ Some item → P item.body) [
-        | true ↦ λ g. subst (λ (it : LogItem). P it.body) (same_Some x item g) all.0
-        | false ↦ λ g. found_entry (n + 1) xs all.1 version item g
-      ] is
+abbrev pub bodies_of : List LogItem → List (List ℕ)
+bodies_of items = map (λ item. item.body) items
 
-  each_entry : (xs : List LogItem) → ((k : ℕ) (d : LogItem) → k < length xs → P (get_or xs k d).body) → AllByRecursion (λ x. P x.body) xs
-  each_entry [] h = tt
-  each_entry (x ∷ xs) h = (h 0 x (omega arith), each_entry xs (λ k d less. h (suc k) d (omega (arith, less))))
+pub bodies_more : (xs : List LogItem) (k : ℕ) (d : LogItem) → k < length xs → bodies_of (take (k + 1) xs) ≡ bodies_of (take k xs) ++ (get_or xs k d).body ∷ []
+bodies_more xs k d h = ap bodies_of (take_more xs k d h) ∙ map-append (λ (item : LogItem). item.body) (take k xs) (get_or xs k d ∷ [])
 
-  pub log_holds : (xs : List LogItem) → AllByRecursion (λ x. P x.body) xs ↔ ((version : ℤ) (item : LogItem) → get (log_of xs) version ≡ Some item → P item.body)
-  unfolding log_of
-  log_holds xs = (
-    λ all version item is. found_entry 0 xs all version item (sym (get-from_entries int_cmp_total (numbered 0 xs) version) ∙ is),
-    λ h. each_entry xs (λ k d less. h (pos k) (get_or xs k d) (log_has xs k d less)),
-  )
+bodies_split : (xs : List LogItem) (k : ℕ) (d : LogItem) → k < length xs → bodies_of xs ≡ bodies_of (take k xs) ++ (get_or xs k d).body ∷ bodies_of (drop (k + 1) xs)
+bodies_split xs k d h =
+    ap bodies_of (sym (take-append-drop k xs)) ∙ map-append (λ (item : LogItem). item.body) (take k xs) (drop k xs)
+    ∙ ap (λ (rest : List LogItem). bodies_of (take k xs) ++ bodies_of rest) (drop_more xs k d h)
+
+-- one more body decodes
+pub one_more : DecodesOn → (opening before after : List TableDef) (xs : List LogItem) (k : ℕ) (d : LogItem) (body : List ℕ) (good : Bool) → k < length xs → body ≡ (get_or xs k d).body → good ≡ true
+    → Decodes opening (bodies_of (take k xs)) before → AreJudged before (body ∷ []) good after → Decodes opening (bodies_of (take (k + 1) xs)) after
+one_more on opening before after xs k d body good h is told front next =
+    subst (λ (bodies : List (List ℕ)). Decodes opening bodies after) (sym (bodies_more xs k d h ∙ ap (λ (bytes : List ℕ). bodies_of (take k xs) ++ bytes ∷ []) (sym is)))
+    ((on opening after (bodies_of (take k xs)) (body ∷ [])).1 (before, front, subst (λ (b : Bool). AreJudged before (body ∷ []) b after) told next))
+
+-- where one doesn't behind those that do, the log doesn't
+pub one_less : RefusedOn → (opening before after : List TableDef) (xs : List LogItem) (k : ℕ) (d : LogItem) (body : List ℕ) (good : Bool) → AreTables opening → k < length xs → body ≡ (get_or xs k d).body → good ≡ false
+    → Decodes opening (bodies_of (take k xs)) before → AreJudged before (body ∷ []) good after → AreJudged opening (bodies_of xs) false opening
+one_less refused opening before after xs k d body good are h is told front next =
+    subst (λ (bodies : List (List ℕ)). AreJudged opening bodies false opening) (sym (bodies_split xs k d h ∙ ap (λ (bytes : List ℕ). bodies_of (take k xs) ++ bytes ∷ bodies_of (drop (k + 1) xs)) (sym is)))
+    (refused opening before after (bodies_of (take k xs)) body (bodies_of (drop (k + 1) xs)) are front (subst (λ (b : Bool). AreJudged before (body ∷ []) b after) told next))
+
+-- the bodies of what is held are those of the list
+bodies_held : BodiesInOrder → (held : Contents) (xs : List LogItem) → held.log ≡ log_of xs → log_bodies held ≡ bodies_of xs
+bodies_held in_order held xs is =
+    in_order held (each_is_there held xs is)
+    ∙ ap bodies_of (sym (range_is held xs is (log_count held) 0) ∙ take_all (log_count held) xs (omega (arith, ap (λ log. len log) is, log_len xs)))
 
 -- ---- names
 
@@ -170,26 +184,42 @@ own_empty meta none name value is = let no : ◌≡◌ {A = Option (List ℕ)} N
 
 -- ---- all together
 
-three : (a b c : Bool) → (a && (b && c)) ≡ true → (a ≡ true) × (b ≡ true) × (c ≡ true)
-three true true true h = (refl, refl, refl)
-three true true false h = absurd cc
-three true false c h = absurd cc
-three false b c h = absurd cc
+two : (a b : Bool) → (a && b) ≡ true → (a ≡ true) × (b ≡ true)
+two true true h = (refl, refl)
+two true false h = absurd cc
+two false b h = absurd cc
 
-all_three : (a b c : Bool) → a ≡ true → b ≡ true → c ≡ true → (a && (b && c)) ≡ true
-all_three true true true p q r = refl
-all_three true true false p q r = absurd cc
-all_three true false c p q r = absurd cc
-all_three false b c p q r = absurd cc
+both : (a b : Bool) → a ≡ true → b ≡ true → (a && b) ≡ true
+both true true p q = refl
+both true false p q = absurd cc
+both false b p q = absurd cc
 
-pub whole_is : (tables : List TableDef) (rows pending : Bodies) (es : List (SlotKey × Slot)) (xs : List LogItem) (a b c : Bool) → HasOwnNames (meta_of (shown es))
-    → (IsTrue a ↔ ((place : StorePlace) (body : List ℕ) → get rows place ≡ Some body → AtTable StoresRow tables place body))
-    → (IsTrue b ↔ ((place : StorePlace) (body : List ℕ) → get pending place ≡ Some body → AtTable StoresChange tables place body))
-    → (IsTrue c ↔ AllByRecursion (λ x. StoresBody tables x.body) xs)
-    → IsTrue (a && (b && c)) ↔ IsWhole tables (held_in rows pending es xs)
-unfolding HasOwnNames
-whole_is tables rows pending es xs a b c own ra pb lc =
-    let l = log_holds (StoresBody tables) xs in (
-      λ all. let each = three a b c all in record { rows = ra.0 each.0; pending = pb.0 each.1; entries = l.0 (lc.0 each.2); names = own },
-      λ whole. all_three a b c (ra.1 whole.rows) (pb.1 whole.pending) (lc.1 (l.1 whole.entries)),
-    )
+module _ (in_order : BodiesInOrder) (opening : List TableDef) (rows pending : Bodies) (es : List (SlotKey × Slot)) (xs : List LogItem) where
+  abbrev Held : Contents
+  Held = held_in rows pending es xs
+
+  bodies : log_bodies Held ≡ bodies_of xs
+  bodies = bodies_held in_order Held xs refl
+
+  -- where the log decodes, rows and pending changes are by the tables that it leaves
+  pub whole_is : OnePresent → AreTables opening → HasOwnNames (meta_of (shown es)) → (present : List TableDef) (a b : Bool) → Decodes opening (bodies_of xs) present
+      → (IsTrue a ↔ ((place : StorePlace) (body : List ℕ) → get rows place ≡ Some body → AtTable StoresRow present place body))
+      → (IsTrue b ↔ ((place : StorePlace) (body : List ℕ) → get pending place ≡ Some body → AtTable StoresChange present place body))
+      → IsTrue (a && b) ↔ IsWhole opening Held
+  unfolding HasOwnNames
+  whole_is one are own present a b decodes ra pb = (
+    λ all.
+        let each = two a b all in
+        record { present = present; entries = subst (λ (l : List (List ℕ)). Decodes opening l present) (sym bodies) decodes; rows = ra.0 each.0; pending = pb.0 each.1; names = own },
+    λ whole.
+        let same : whole.present ≡ present = one opening whole.present present (bodies_of xs) are (subst (λ (l : List (List ℕ)). Decodes opening l whole.present) bodies whole.entries) decodes in
+        both a b (ra.1 (subst (λ (t : List TableDef). (place : StorePlace) (body : List ℕ) → get rows place ≡ Some body → AtTable StoresRow t place body) same whole.rows))
+        (pb.1 (subst (λ (t : List TableDef). (place : StorePlace) (body : List ℕ) → get pending place ≡ Some body → AtTable StoresChange t place body) same whole.pending)),
+  )
+
+  -- where it doesn't, it isn't whole
+  pub not_whole : AreJudged opening (bodies_of xs) false opening → IsTrue false ↔ IsWhole opening Held
+  not_whole never = (
+    λ no. absurd cc,
+    λ whole. absurd (never whole.present (subst (λ (l : List (List ℕ)). Decodes opening l whole.present) bodies whole.entries)),
+  )

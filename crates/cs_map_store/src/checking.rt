@@ -1,15 +1,16 @@
 //! Whether all that a `MapStore` holds is what its places say.
 
-ghost use Rattle.std.specs.Prelude.{◌≡◌, ◌<◌, ◌↔◌, ◌&&◌, length, IfOk, IsTrue};
+ghost use Rattle.std.specs.Prelude.{◌≡◌, ◌<◌, ◌↔◌, ◌&&◌, false, length, map, IfOk, IsTrue, MatchOption};
 ghost use Rattle.std.specs.List.{AllByRecursion};
-ghost use Rattle.cs_store.specs.Whole.{StoresBody};
+ghost use Rattle.cs_store.specs.Whole.{AreJudged, Decodes};
 ghost use Rattle.cs_leaf.specs.Entries.{nth};
 ghost use Rattle.cs_map_store.specs.Leaves.{flat};
 ghost use Rattle.cs_map_store.specs.Checked.{IsGood};
 
 use crate::log::PackedLog;
 use cs_leaf::Leaf;
-use cs_store::{is_body, is_change, is_row};
+use cs_store::laws::decoding;
+use cs_store::{Present, is_change, is_row};
 use cs_value::Catalog;
 use std::alloc::{AllocError, Global};
 
@@ -77,22 +78,31 @@ pub fn check_leaves(
     Ok(true)
 }
 
-/// Whether the body of each entry decodes. None is copied.
-pub fn check_log(alloc: Global, catalog: &Catalog, log: &PackedLog) -> Result<bool, AllocError>
-    ensures { IfOk result (λ good. IsTrue good ↔ AllByRecursion (λ item. StoresBody catalog.now item.body) log.now.items) }
+/// The catalog behind the last entry, if the bodies of the log decode. None of them is copied.
+pub fn check_log<'a>(
+    alloc: Global,
+    catalog: &'a Catalog,
+    log: &PackedLog,
+) -> Result<Option<Present<'a>>, AllocError>
+    ensures { IfOk result (λ behind. MatchOption behind
+        (AreJudged catalog.now (map (λ item. item.body) log.now.items) false catalog.now)
+        (λ present. Decodes catalog.now (map (λ item. item.body) log.now.items) present)) }
 {
+    decoding();
+    let _ = catalog.tables();
+    let mut present = Present::new(catalog);
     for at in 0..log.len() as usize {
-        let good = is_body(alloc, catalog, log.body(at))?;
+        let good = present.judge_body(alloc, log.body(at))?;
         if !good {
-            return Ok(false);
+            return Ok(None);
         }
     }
-    Ok(true)
+    Ok(Some(present))
 }
 
-/// Whether all three hold.
-pub fn all_hold(rows: bool, pending: bool, entries: bool) -> bool
-    ensures { result ≡ (rows && (pending && entries)) }
+/// Whether both hold.
+pub fn both_hold(rows: bool, pending: bool) -> bool
+    ensures { result ≡ (rows && pending) }
 {
-    rows && pending && entries
+    rows && pending
 }

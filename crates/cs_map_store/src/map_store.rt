@@ -6,7 +6,7 @@ ghost use Rattle.cs_map_store.specs.Packed.{HasRoomFor};
 ghost use Rattle.cs_map_store.specs.Slots.{HasOwnNames, held_in, log_of, meta_of, shown};
 ghost use Rattle.cs_map_store.specs.Steps.{HasSlots, IsEmptyOnlyAt, IsKept, step_keys};
 
-use crate::checking::{Shelf, all_hold, check_log};
+use crate::checking::{Shelf, both_hold, check_log};
 use crate::leaves::Near;
 use crate::log::PackedLog;
 use crate::shelves::{Leaves, Shelves};
@@ -14,6 +14,7 @@ use crate::slots::{
     SlotKey, Slots, Step, make_slots, read_slot, steps_of, sweep_steps, write_steps,
 };
 use cs_leaf::Place;
+use cs_store::laws::decoding;
 use cs_store::{Batch, MetaName, RowStore, StoreFault, StoredBody, StoredEntry};
 use cs_value::Catalog;
 use std::alloc::{AllocError, Global};
@@ -322,15 +323,19 @@ impl RowStore for MapStore {
         ensures memory { IfErr result (λ fault. fault ≡ Memory) }
         ensures count { self.new.misreads ≡ self.old.misreads }
     {
+        decoding();
+        let _ = catalog.tables();
+        let Some(present) = check_log(self.alloc, catalog, &self.log)? else {
+            return Ok(false);
+        };
         // Values have no names but ours, by the type's invariant.
+        let catalog = present.catalog();
         let rows = self.shelves.rows.check(self.alloc, catalog, Shelf::Rows)?;
         let pending = self
             .shelves
             .pending
             .check(self.alloc, catalog, Shelf::Pending)?;
-        let entries = check_log(self.alloc, catalog, &self.log)?;
-        let whole = all_hold(rows, pending, entries);
-        Ok(whole)
+        Ok(both_hold(rows, pending))
     }
 
     fn failures(&self) -> u64 {

@@ -6,6 +6,7 @@ use Rattle.cs_store.specs.Contents.{Contents}
 use Rattle.cs_pending.specs.Shows.{ShowsRows, ShowsSome}
 use Rattle.cs_pending.specs.View.{View}
 use Rattle.cs_opening.specs.Steps.{FlightLeads, HoldsPlaces, IsCount, IsJudged, IsSound, TablesLead}
+use Rattle.cs_opening.proofs.NoLog.{theirs}
 use Rattle.cs_opening.proofs.Seen.{SeenLaws, shows_some}
 
 module _ (tables : List TableDef) (law : SeenLaws tables) (first second third : Contents) (same : second ≡ first) (again : third ≡ second) (holds : HoldsPlaces tables first) (shown : List TableDef) (is : shown ≡ tables) where
@@ -15,7 +16,7 @@ module _ (tables : List TableDef) (law : SeenLaws tables) (first second third : 
 
   -- where each change leads, rows are shown
   pub some_shown : (count : ℕ) → IsCount second 0 shown (Some count) → ShowsSome tables first
-  some_shown count counted = shows_some tables law first holds.whole (count_first (Some count) counted).0
+  some_shown count counted = shows_some tables law first (theirs tables first holds.log holds.whole) (count_first (Some count) counted).0
 
   pub some_later : (count : ℕ) → IsCount second 0 shown (Some count) → ShowsSome tables third
   some_later count counted =

@@ -1,3 +1,4 @@
+pub mod NoLog
 pub mod Nothing
 pub mod Decoded
 pub mod Bases

@@ -14,7 +14,7 @@ use Rattle.cs_value.specs.Facts.{by_test}
 use Rattle.cs_value.specs.declared.catalog.TableDef.{TableDef}
 use Rattle.cs_change.specs.Net.{net}
 use Rattle.cs_order.specs.Order.{by_bytes}
-use Rattle.cs_store.specs.Contents.{Bodies, Contents, Log, Meta, StorePlace, place_cmp, log_count, meta_value, name_text, nothing}
+use Rattle.cs_store.specs.Contents.{Bodies, Contents, Log, LogItem, Meta, StorePlace, place_cmp, log_count, meta_value, name_text, nothing}
 use Rattle.cs_store.specs.Laws.{KeepsOtherNames, WritesMeta, value_after}
 use Rattle.cs_store.specs.Whole.{AtTable, IsName, IsWhole, StoresChange, StoresRow}
 use Rattle.cs_store.specs.Written.{after_batch, appended, edit_body, optional_entry}
@@ -29,6 +29,7 @@ use Rattle.cs_pending.specs.View.{undo, middle}
 use Rattle.cs_pending.specs.position.Shows.{changes_at}
 use Rattle.cs_pending.specs.position.Values.{value_of}
 use Rattle.cs_pending.specs.Laws.{empty_view}
+use Rattle.cs_opening.proofs.NoLog.{no_log, theirs}
 use Rattle.cs_opening.specs.Fresh.{IsFirst, IsLaidOut, first_position}
 
 place_total : IsTotalOrder place_cmp
@@ -107,18 +108,20 @@ module _ (contents : Contents) where
 module _ (tables : List TableDef) (bare : tables ≡ []) where
   whole_nothing : IsWhole tables nothing
   whole_nothing = record {
+    present = tables;
+    entries = no_log tables nothing (len-empty int_cmp LogItem);
     rows = λ place body is. absurd (let no = sym is ∙ get-empty place_cmp place in cc);
     pending = λ place body is. absurd (let no = sym is ∙ get-empty place_cmp place in cc);
-    entries = λ version item is. absurd (let no = sym is ∙ get-empty int_cmp version in cc);
     names = λ name value is. absurd (let no = sym is ∙ get-empty by_bytes name in cc);
   }
 
   holds_none : (contents : Contents) → IsWhole tables contents → log_count contents ≡ 0 → AllByRecursion (λ (name : MetaName). meta_value contents name ≡ None) all_names → contents ≡ nothing
   holds_none contents whole count none =
+      let held = theirs tables contents count whole in
       all_parts contents.rows contents.pending contents.meta contents.log
-      (no_bodies contents.rows (λ place body is. no_table StoresRow place body (subst (λ (ts : List TableDef). AtTable StoresRow ts place body) bare (whole.rows place body is))))
-      (no_bodies contents.pending (λ place body is. no_table StoresChange place body (subst (λ (ts : List TableDef). AtTable StoresChange ts place body) bare (whole.pending place body is))))
-      (no_values contents whole.names (all_none contents none))
+      (no_bodies contents.rows (λ place body is. no_table StoresRow place body (subst (λ (ts : List TableDef). AtTable StoresRow ts place body) bare (held.rows place body is))))
+      (no_bodies contents.pending (λ place body is. no_table StoresChange place body (subst (λ (ts : List TableDef). AtTable StoresChange ts place body) bare (held.pending place body is))))
+      (no_values contents held.names (all_none contents none))
       (empty_of_len contents.log count)
 
   -- what the names, a count and a check tell, of contents that stay as they are

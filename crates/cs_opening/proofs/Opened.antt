@@ -22,6 +22,7 @@ use Rattle.cs_opening.specs.Opens.{AreOf, StandsAt, StandsNowhere}
 use Rattle.cs_opening.specs.Said.{IsFlightOf, SaysPosition}
 use Rattle.cs_opening.specs.Steps.{AreListed, IsSound}
 use Rattle.cs_opening.specs.declared.owning.Owner.TheVariants.{This}
+use Rattle.cs_opening.proofs.NoLog.{theirs}
 use Rattle.cs_opening.proofs.Counted.{all_counted}
 use Rattle.cs_opening.proofs.Flown.{flight_leads, flight_sound}
 use Rattle.cs_opening.proofs.Lowered.{low, low_fits, low_same}
@@ -137,7 +138,7 @@ module _ (tables : List TableDef) (law : Catalogs tables) (set : SetColumnsFit) 
 
   shown_at : ShowsAt tables contents found sound.view
   shown_at =
-      let whole = sound.holds.whole in
+      let whole = theirs tables contents sound.holds.log sound.holds.whole in
       record {
         rows = sound.shows;
         values = values_are;

@@ -15,7 +15,8 @@ use Rattle.cs_normal.specs.Laws.{SetColumnsFit}
 use Rattle.cs_normal.specs.State.{MayStandAt}
 use Rattle.cs_store.specs.Contents.{Contents, stored_pending, stored_tables}
 use Rattle.cs_store.specs.States.{IsStored}
-use Rattle.cs_store.specs.Whole.{IsWhole, StoresRow, StoresChange}
+use Rattle.cs_store.specs.Whole.{StoresRow, StoresChange}
+use Rattle.cs_opening.proofs.NoLog.{HoldsTheirs}
 use Rattle.cs_pending.specs.Spots.{name_is, name_not}
 use Rattle.cs_pending.specs.Nets.{undo_none}
 use Rattle.cs_pending.specs.OnePlace.{contained}
@@ -98,7 +99,7 @@ record IsSpotNamed (tables : List TableDef) (contents : Contents) (name key : Li
   pub base : MayStandAt tables name key (undo (action_any change) place)
   pub spot : (number : ℕ) (table : TableDef) → slice_get tables number ≡ Some table → table.name ≡ name → IsSpot contents number table key place change
 
-module _ (tables : List TableDef) (law : SeenLaws tables) (contents : Contents) (whole : IsWhole tables contents) (lead : TablesLead contents 0 tables) where
+module _ (tables : List TableDef) (law : SeenLaws tables) (contents : Contents) (whole : HoldsTheirs tables contents) (lead : TablesLead contents 0 tables) where
   table_is : (some other : ℕ) (t u : TableDef) → pos some ≡ pos other → slice_get tables some ≡ Some t → slice_get tables other ≡ Some u → u ≡ t
   table_is some other t u e at found =
       let same : some ≡ other = (let f = e in cc) in

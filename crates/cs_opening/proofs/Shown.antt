@@ -21,6 +21,7 @@ use Rattle.cs_pending.specs.Shows.{IsElsewhere, ShowsRows}
 use Rattle.cs_pending.specs.View.{View, middle, undo}
 use Rattle.cs_pending.specs.position.Shows.{ShowsAt}
 use Rattle.cs_pending.specs.declared.position.position.Position.{Position}
+use Rattle.cs_opening.proofs.NoLog.{no_log}
 use Rattle.cs_opening.specs.Steps.{HoldsPlaces, IsLeading, IsNetTo, TablesLead}
 use Rattle.cs_opening.proofs.Bases.{StandsIn, net_keyed, stands_in}
 
@@ -118,9 +119,10 @@ module _ (tables : List TableDef) (law : Catalogs tables) (contents : Contents) 
   pub holds_places : HoldsPlaces tables contents
   holds_places = record {
     whole = record {
+      present = tables;
+      entries = no_log tables contents shows.alone.log;
       rows = λ place body e. rows_at place.0 place.1 body e;
       pending = λ place body e. pending_at place.0 place.1 body e;
-      entries = λ version item e. absurd (let no = sym e ∙ ap (λ (l : Log). get l version) (empty_of_len contents.log shows.alone.log) ∙ get-empty int_cmp version in cc);
       names = shows.alone.names;
     };
     log = shows.alone.log;

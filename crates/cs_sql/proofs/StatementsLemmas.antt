@@ -12,6 +12,7 @@ pub mod Listed
 pub mod Adopting
 pub mod Granting
 pub mod Holding
+pub mod Bodies
 pub mod Streams
 pub mod Ranges
 pub mod Taking

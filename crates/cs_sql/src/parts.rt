@@ -38,7 +38,7 @@ impl Part {
         }
     }
 
-    /// The query that shows all that the table holds.
+    /// The query that shows all that the table holds: the bodies of the log in the order of their versions.
     pub(crate) fn query(self) -> &'static str
         ensures { result.now ≡ all_text self }
     {
@@ -46,7 +46,7 @@ impl Part {
             Part::Rows => "SELECT tab, key, body FROM rows",
             Part::Pending => "SELECT tab, key, body FROM pending",
             Part::Meta => "SELECT name FROM meta",
-            Part::Log => "SELECT body FROM log",
+            Part::Log => "SELECT body FROM log ORDER BY version",
         }
     }
 }

@@ -1,7 +1,6 @@
 -- The laws of stores: one answer for each input, and what a commit leaves at each place.
 use Rattle.std.proofs.Common.{◌≡◌, ◌≢◌, ◌≤◌, ◌-◌, zero, suc, ℕ, ◌&&◌, cond, List, [], ◌∷◌, Option, Some, None, is_some, refl, sym, ap, ◌∙◌, fold, arith, Result, Ok, Err, IsOk, OnOk, OnErr, IsSome, inl, inr, ⊎_elim, subst, ◌+◌}
 use Rattle.std.specs.Prelude.{pos, nat_eq, false}
-use borrow.Author.Tests.{eqb-true, eqb-false}
 use Rattle.std.specs.declared.cmp.Ordering.{Ordering}
 use Rattle.std.specs.declared.cmp.Ordering.TheVariants.{Less, Equal, Greater}
 use Rattle.std.specs.Ordering.{is_eq, eq_by_cmp, int_cmp, ordering_then}

@@ -5,10 +5,9 @@ ghost use Rattle.cs_value.specs.declared.value.Value.{Value};
 ghost use Rattle.cs_record.specs.Spelling.{row_bytes};
 ghost use Rattle.cs_change.specs.Spelling.{FitsRow, is_nonzero, marks_of};
 ghost use Rattle.cs_normal.specs.keyed.NormalForm.{change_bytes, has_key};
-ghost use Rattle.cs_store.specs.Whole.{AtTable, IsName, StoresBody, StoresChange, StoresRow};
+ghost use Rattle.cs_store.specs.Whole.{AtTable, IsName, StoresChange, StoresRow};
 
 use crate::MetaName;
-use crate::log::is_stored_body;
 use cs_changeset::{Change, read_one};
 use cs_normal::keyed::put_key;
 use cs_record::{Row, read_row};
@@ -110,13 +109,6 @@ pub fn is_change(
     };
     let is = is_change_of(alloc, named, key, body)?;
     Ok(is)
-}
-
-/// Whether the bytes are those that the body of an entry of the catalog's tables is stored as.
-pub fn is_body(alloc: Global, catalog: &Catalog, bytes: &[u8]) -> Result<bool, Memory>
-    ensures { IfOk result (λ is. IsTrue is ↔ StoresBody catalog.now bytes.now) }
-{
-    is_stored_body(alloc, catalog, bytes)
 }
 
 /// Whether the bytes are the text of a name.

@@ -2,8 +2,11 @@
 
 ghost use Rattle.cs_store.specs.Laws.{CommitCanBe, CommitsThenReads, CountsBodies, CountsLog, FailsToCommit, KeepsOtherNames, KeepsOtherPending, KeepsOtherRows, ListsTwoRows, NamesApart, OneCommit, OneListing, OneRefusal, OnlyMemory, ReadsAlike, ReadsEdits, ReadsThenCommits, ReadsThenReads, WritesLog, WritesMeta, WritesPending, WritesRows};
 ghost use Rattle.cs_store.specs.StateLaws.{EditsLeadToState, HoldsOneState};
+ghost use Rattle.cs_store.specs.WholeLaws.{BodiesInOrder, DecodesOn, LogDecodes, OnePresent, PresentAreTables, RefusedOn};
 
 use crate::RowStore;
+use crate::log::laws::one_body;
+use cs_widening::laws::widened_are_tables;
 
 /// A table has one listing. A table of two rows shows that there are such.
 pub fn listings()
@@ -51,6 +54,20 @@ pub fn states()
     ensures one { HoldsOneState }
     ensures edited { EditsLeadToState }
 {}
+
+/// The bodies of a log leave one catalog where they decode. They decode one after another, and those of a log's entries leave the
+/// catalog of that log. Where no version below the count lacks its entry, the bodies are those of the entries in order.
+pub fn decoding()
+    ensures one { OnePresent }
+    ensures tables { PresentAreTables }
+    ensures on { DecodesOn }
+    ensures refused { RefusedOn }
+    ensures log { LogDecodes }
+    ensures in_order { BodiesInOrder }
+{
+    one_body();
+    widened_are_tables();
+}
 
 /// Where the count of failures stood still below its last value, a fault is `Memory`.
 pub fn only_memory<T>(_answer: &T)

@@ -119,8 +119,9 @@ pub trait RowStore {
         ensures told { result ≡ Device }
         ensures counted { CountsMisread honest contents failed may_leave misreads self.old self.new result };
 
-    /// Whether all that it holds is what its places say. Each row is one of a table of the catalog, at the table's number and
-    /// its own key, and so is each pending change. Each entry's body decodes, and no value has a name but ours.
+    /// Whether all that it holds is what its places say. The body of each entry decodes, by the tables that the log opened with and the
+    /// entries before it widened. By the tables behind the last entry each row is one of a table, at the table's number and its own key,
+    /// and so is each pending change. No value has a name but ours.
     fn check(&mut self, catalog: &Catalog) -> Result<bool, StoreFault>
         ensures checked { honest self.new → IfOk result (λ good. IsTrue good ↔ IsWhole catalog.now (contents self.old)) }
         ensures reads { OnlyReads honest contents failed may_leave misreads self.old self.new result };

@@ -1,18 +1,19 @@
 -- What is looked at of a hub's store, step by step, is what it is.
-use Rattle.std.proofs.Common.{◌≡◌, ◌≢◌, ◌∙◌, ℕ, List, [], ◌∷◌, Some, None, length, ap, subst, sym}
+use Rattle.std.proofs.Common.{◌≡◌, ◌≢◌, ◌∙◌, ℕ, List, [], ◌∷◌, Some, None, length, arith, ap, subst, sym}
 use Rattle.std.specs.Prelude.{ℤ, pos}
 use Rattle.std.specs.FinMap.{get, get-empty}
 use Rattle.std.specs.List.{AllByRecursion}
 use Rattle.std.proofs.lemmas.Option.{slice_get_within}
 use Rattle.cs_value.specs.declared.catalog.TableDef.{TableDef}
 use Rattle.cs_store.specs.Contents.{Bodies, Contents, HasEachEntry, StorePlace, log_count, meta_value, name_text, place_cmp}
-use Rattle.cs_store.specs.Whole.{IsWhole}
+use Rattle.cs_store.specs.Whole.{IsWhole, log_bodies}
 use Rattle.cs_store.specs.declared.names.MetaName.{MetaName}
 use Rattle.cs_store.specs.declared.names.MetaName.TheVariants.{Version, Number, Flight, Pending}
 use Rattle.cs_opening.specs.declared.owning.Owner.TheVariants.{This}
 use Rattle.cs_hub.specs.log_store.Shows.{hub_value}
 use Rattle.cs_hub.specs.log_opening.Opens.{AreOf, IsHubStore}
 use Rattle.cs_hub.specs.log_opening.Steps.{IsCounted, PendsNoneBelow}
+use Rattle.cs_hub.proofs.LogOpeningLemmas.Many.{many_present}
 use Rattle.cs_hub.proofs.LogOpeningLemmas.Names.{each_name, no_bodies, none_at}
 
 -- none of a replica's names has a value
@@ -32,7 +33,8 @@ module _ (opening : List TableDef) (contents : Contents) where
     nowhere : (place : StorePlace) (body : List ℕ) → get contents.pending place ≡ Some body → ⊥
     nowhere place body e =
         let at = whole.pending place body e in
-        let none = pends at.0 (slice_get_within opening at.0 at.1 at.3) place.1 in
+        let within = slice_get_within whole.present at.0 at.1 at.3 in
+        let none = pends at.0 (omega (arith, within, many_present opening whole.present (log_bodies contents) whole.entries)) place.1 in
         absurd (let no = sym e ∙ ap (λ (z : ℤ). get contents.pending (z, place.1)) at.2 ∙ none in cc)
 
     no_other : (text : List ℕ) → ((name : MetaName) → name_text name ≢ text) → get contents.meta text ≡ None

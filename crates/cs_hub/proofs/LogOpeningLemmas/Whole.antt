@@ -1,13 +1,9 @@
 -- A store that shows a log is what a hub's store is.
-use Rattle.std.proofs.Common.{◌≡◌, ◌≢◌, ◌≤◌, ◌<◌, ◌+◌, ◌-◌, ◌∙◌, inl, inr, ℕ, zero, suc, Bool, true, false, cond, List, Option, Some, None, is_some, option_map, arith, length, refl, ap, subst, sym}
+use Rattle.std.proofs.Common.{◌≡◌, ◌≢◌, ◌≤◌, ◌<◌, ◌+◌, ◌∙◌, inl, inr, ℕ, suc, List, [], ◌∷◌, Option, Some, None, is_some, option_map, arith, length, map, take, refl, ap, subst, sym}
 use Rattle.std.specs.Prelude.{ℤ, pos, negsuc, IsSome, slice_get}
-use Rattle.std.specs.Cmp.{Equal-is}
-use Rattle.std.specs.FinMap.{contains_key, empty_of_len, get, get-empty, get-remove, len, len-remove, remove}
-use Rattle.std.specs.Ordering.{eq_by_cmp, int_cmp}
-use Rattle.std.proofs.lemmas.Cmp.{int_cmp_total}
-use Rattle.std.proofs.lemmas.Map.Lookups.{exact_signed}
+use Rattle.std.specs.FinMap.{get, get-empty}
+use Rattle.std.proofs.lemmas.List.{take_all}
 use Rattle.std.proofs.lemmas.Option.{same_Some, slice_get_cases}
-use Rattle.cs_value.specs.Facts.{by_test}
 use Rattle.cs_value.specs.Key.{Place}
 use Rattle.cs_value.specs.Laws.{OnePlaceOfName}
 use Rattle.cs_value.specs.Catalog.{AreTables}
@@ -15,11 +11,13 @@ use Rattle.cs_value.specs.declared.catalog.TableDef.{TableDef}
 use Rattle.cs_record.specs.Spelling.{row_bytes}
 use Rattle.cs_order.specs.Order.{by_bytes}
 use Rattle.cs_normal.specs.State.{IsRowOf, MayStandAt}
-use Rattle.cs_store.specs.log.Laws.{CatalogStays}
-use Rattle.cs_store.specs.log.Log.{state_of}
+use Rattle.cs_store.specs.log.Laws.{CatalogsAreTables}
+use Rattle.cs_store.specs.log.Log.{catalog_at, catalog_of, state_of}
+use Rattle.cs_store.specs.log.Stored.{stored_body}
 use Rattle.cs_store.specs.declared.log.entry.LogEntry.{LogEntry}
-use Rattle.cs_store.specs.Contents.{Bodies, Contents, Log, LogItem, log_entry, meta_value, name_text, nothing, place_cmp, stored_tables}
-use Rattle.cs_store.specs.Whole.{AtTable, IsName, IsWhole, StoresBody, StoresRow}
+use Rattle.cs_store.specs.Contents.{Bodies, Contents, HasEachEntry, LogItem, entry_before, log_entry, log_range, meta_value, name_text, nothing, place_cmp, stored_tables}
+use Rattle.cs_store.specs.Whole.{AtTable, Decodes, IsName, IsPresent, IsWhole, StoresRow, log_bodies}
+use Rattle.cs_store.specs.WholeLaws.{BodiesInOrder, LogDecodes}
 use Rattle.cs_store.specs.declared.names.MetaName.TheVariants.{Catalog}
 use Rattle.cs_apply.specs.NormalTasks.{one_table}
 use Rattle.cs_pending.specs.OnePlace.{contained}
@@ -27,52 +25,22 @@ use Rattle.cs_pending.specs.Shows.{IsElsewhere}
 use Rattle.cs_hub.specs.log_store.Shows.{ShowsLog, item_of_entry}
 use Rattle.cs_hub.specs.log_opening.Laws.{HubIsOpened}
 use Rattle.cs_hub.specs.log_opening.Opens.{IsHubStore}
-use Rattle.cs_store.specs.States.{Holds}
-use Rattle.cs_hub.proofs.AppendingLemmas.Batches.{holds_opening}
-use Rattle.cs_hub.proofs.LogReadingLemmas.Found.{fits_at}
-use Rattle.cs_hub.proofs.LogOpeningLemmas.Names.{named_or_not, none_at}
+use Rattle.cs_hub.proofs.LogOpeningLemmas.Many.{many_of}
+use Rattle.cs_hub.proofs.LogOpeningLemmas.Names.{named_or_not}
 
--- ---- a log has no entry but those below its count, where all of these are there
+-- ---- the entries of a store that shows a log, in order
 
-apart : (z k : ℤ) → (z ≡ k → ⊥) → eq_by_cmp int_cmp z k ≡ false
-apart z k never =
-    by_test (eq_by_cmp int_cmp z k) _ (λ t. absurd (never (exact_signed z k ((Equal-is (int_cmp z k)).0 t)))) (λ t. t)
+map_twice : {A B C : Type 0} (f : B → C) (g : A → B) (xs : List A) → map f (map g xs) ≡ map (λ x. f (g x)) xs
+map_twice f g [] = refl
+map_twice f g (x ∷ xs) = ap (λ ys. f (g x) ∷ ys) (map_twice f g xs)
 
-still_there : (log : Log) (k z : ℤ) → (z ≡ k → ⊥) → get (remove log k) z ≡ get log z
-still_there log k z never =
-    get-remove int_cmp_total log k z ∙ ap (λ (b : Bool). cond b None (get log z)) (apart z k never)
-
-one_at_least : (log : Log) (z : ℤ) (item : LogItem) → get log z ≡ Some item → len log ≡ 0 → ⊥
-one_at_least log z item e none =
-    absurd (let no = sym e ∙ ap (λ (l : Log). get l z) (empty_of_len log none) ∙ get-empty int_cmp z in cc)
-
-one_less : (log : Log) (z : ℤ) (item : LogItem) → get log z ≡ Some item → len (remove log z) + 1 ≡ len log
-one_less log z item e =
-    let some : contains_key log z ≡ true = ap is_some e in
-    let less : len (remove log z) ≡ len log - 1 = len-remove int_cmp_total log z ∙ ap (λ (b : Bool). cond b (len log - 1) (len log)) some in
-    let least = one_at_least log z item e in
-    omega (arith, less, least)
-
-other_version : (v n : ℕ) → v < n → pos v ≡ pos n → ⊥
-other_version v n less e = let same : v ≡ n = (let f = e in cc) in omega (arith, less, same)
-
-some_item : (o : Option LogItem) → IsSome o → (item : LogItem) × (o ≡ Some item)
-some_item None is = absurd (let no = is in cc)
-some_item (Some item) is = (item, refl)
-
-at_least : (n : ℕ) (log : Log) → ((v : ℕ) → v < n → IsSome (get log (pos v))) → n ≤ len log
-at_least zero log all = omega arith
-at_least (suc n) log all =
-    let here = some_item (get log (pos n)) (all n (omega arith)) in
-    let fewer = at_least n (remove log (pos n)) (λ v less. subst (λ (o : Option LogItem). IsSome o) (sym (still_there log (pos n) (pos v) (other_version v n less))) (all v (omega (arith, less)))) in
-    let one = one_less log (pos n) here.0 here.1 in
-    omega (arith, fewer, one)
-
-none_else : (log : Log) (n : ℕ) → ((v : ℕ) → v < n → IsSome (get log (pos v))) → len log ≡ n → (z : ℤ) → ((v : ℕ) → v < n → pos v ≡ z → ⊥) → get log z ≡ None
-none_else log n all long z never = none_at (get log z) (λ item e.
-    let fewer = at_least n (remove log z) (λ v less. subst (λ (o : Option LogItem). IsSome o) (sym (still_there log z (pos v) (never v less))) (all v less)) in
-    let one = one_less log z item e in
-    absurd (omega (arith, fewer, one, long)))
+ranged : (contents : Contents) (log : List LogEntry) (first : ℕ) → ((version : ℕ) → log_entry contents (first + version) ≡ option_map item_of_entry (slice_get log version)) → log_range contents first (length log) ≡ map item_of_entry log
+ranged contents [] first at = refl
+ranged contents (entry ∷ log) first at =
+    let here : log_entry contents first ≡ Some (item_of_entry entry) = ap (log_entry contents) (let e : first ≡ first + 0 = omega arith in e) ∙ at 0 in
+    ap (λ (o : Option LogItem). entry_before o (log_range contents (first + 1) (length log))) here
+    ∙ ap (λ (items : List LogItem). item_of_entry entry ∷ items)
+    (ranged contents log (first + 1) (λ version. ap (log_entry contents) (let e : (first + 1) + version ≡ first + suc version = omega arith in e) ∙ at (suc version)))
 
 -- ---- what stands at the places of a store that shows a log
 
@@ -87,31 +55,34 @@ past tables key number is other e = let same : number ≡ other = (let f = e in 
 before_all : (tables : List TableDef) (key : List ℕ) (number : ℕ) → IsElsewhere tables (negsuc number, key)
 before_all tables key number other e = absurd (let no = e in cc)
 
-module _ (stays : CatalogStays) (one : OnePlaceOfName) (opening : List TableDef) (contents : Contents) (log : List LogEntry) (are : AreTables opening) (shows : ShowsLog opening contents log) where
-  held : Holds opening contents (state_of log)
-  held = holds_opening stays opening contents log shows
+module _ (catalogs : CatalogsAreTables) (decodes : LogDecodes) (in_order : BodiesInOrder) (one : OnePlaceOfName) (opening : List TableDef) (contents : Contents) (log : List LogEntry) (are : AreTables opening) (shows : ShowsLog opening contents log) where
+  abbrev Present : List TableDef
+  Present = catalog_at opening log (length log)
 
-  stands_in : (number : ℕ) (table : TableDef) (key : List ℕ) (place : Place) → slice_get opening number ≡ Some table → MayStandAt opening table.name key place → StandsIn table key place
+  many : length Present ≡ length opening
+  many = many_of opening (take (length log) log)
+
+  stands_in : (number : ℕ) (table : TableDef) (key : List ℕ) (place : Place) → slice_get Present number ≡ Some table → MayStandAt Present table.name key place → StandsIn table key place
   stands_in number table key None at stands = tt
   stands_in number table key (Some row) at (other, among, named, is) =
-      subst (λ (t : TableDef). IsRowOf t key row) (one_table one opening other table are among (contained opening number table at) named) is
+      subst (λ (t : TableDef). IsRowOf t key row) (one_table one Present other table (catalogs opening log (length log) are shows.is_log) among (contained Present number table at) named) is
 
   row_here : (number : ℕ) (table : TableDef) (key body : List ℕ) → stored_tables contents number key ≡ Some body → (place : Place) → StandsIn table key place → stored_tables contents number key ≡ option_map row_bytes place → StoresRow table key body
   row_here number table key body e None stands is = absurd (let no = sym e ∙ is in cc)
   row_here number table key body e (Some row) stands is = (row, stands, same_Some body (row_bytes row) (sym e ∙ is))
 
-  rows_at : (number : ℤ) (key body : List ℕ) → get contents.rows (number, key) ≡ Some body → AtTable StoresRow opening (number, key) body
+  rows_at : (number : ℤ) (key body : List ℕ) → get contents.rows (number, key) ≡ Some body → AtTable StoresRow Present (number, key) body
   rows_at (pos n) key body e =
-      elim (slice_get_cases opening n).1 [
+      elim (slice_get_cases Present n).1 [
         | inl found ↦ (
           n,
           found.0,
           refl,
           found.2,
           row_here n found.0 key body e (state_of log found.0.name key)
-              (stands_in n found.0 key (state_of log found.0.name key) found.2 (held.rows found.0.name key)) (held.stored n found.0 key found.2),
+              (stands_in n found.0 key (state_of log found.0.name key) found.2 (shows.rows.rows found.0.name key)) (shows.rows.stored n found.0 key found.2),
         )
-        | inr out ↦ absurd (let no = sym e ∙ shows.elsewhere (pos n, key) (past opening key n out.0) in cc)
+        | inr out ↦ absurd (let no = sym e ∙ shows.elsewhere (pos n, key) (past opening key n (let from = out.0 in omega (arith, from, many))) in cc)
       ]
   rows_at (negsuc n) key body e = absurd (let no = sym e ∙ shows.elsewhere (negsuc n, key) (before_all opening key n) in cc)
 
@@ -122,20 +93,20 @@ module _ (stays : CatalogStays) (one : OnePlaceOfName) (opening : List TableDef)
         | inr out ↦ absurd (omega (arith, less, out.0))
       ]
 
-  bodies_at : (version : ℤ) (item : LogItem) → get contents.log version ≡ Some item → StoresBody opening item.body
-  bodies_at (pos n) item e =
-      elim (slice_get_cases log n).1 [
-        | inl found ↦
-            let same : item ≡ item_of_entry found.0 = same_Some item (item_of_entry found.0) (sym e ∙ shows.entries.stored n ∙ ap (option_map item_of_entry) found.2) in (
-              found.0.body,
-              fits_at stays opening contents log shows n found.0 found.2,
-              ap (λ (i : LogItem). i.body) same,
-            )
-        | inr out ↦ absurd (let no = sym e ∙ shows.entries.stored n ∙ ap (option_map item_of_entry) out.1 in cc)
-      ]
-  bodies_at (negsuc n) item e =
-      let none = none_else contents.log (length log) entry_there shows.entries.counted (negsuc n) (λ v less is. absurd (let no = is in cc)) in
-      absurd (let no = sym e ∙ none in cc)
+  has_each : HasEachEntry contents
+  has_each version less = entry_there version (subst (λ (n : ℕ). version < n) shows.entries.counted less)
+
+  bodies : log_bodies contents ≡ map (λ (entry : LogEntry). stored_body entry.body) log
+  bodies =
+      in_order contents has_each
+      ∙ ap (λ (count : ℕ). map (λ (item : LogItem). item.body) (log_range contents 0 count)) shows.entries.counted
+      ∙ ap (map (λ (item : LogItem). item.body)) (ranged contents log 0 (λ version. ap (log_entry contents) (let e : 0 + version ≡ version = omega arith in e) ∙ shows.entries.stored version))
+      ∙ map_twice (λ (item : LogItem). item.body) item_of_entry log
+
+  present : IsPresent opening contents Present
+  present =
+      subst (λ (l : List (List ℕ)). Decodes opening l Present) (sym bodies)
+      (subst (λ (t : List TableDef). Decodes opening (map (λ (entry : LogEntry). stored_body entry.body) log) t) (ap (catalog_of opening) (sym (take_all (length log) log (omega arith)))) (decodes opening log shows.fit))
 
   names_at : (text value : List ℕ) → get contents.meta text ≡ Some value → IsName text
   names_at text value e =
@@ -146,9 +117,10 @@ module _ (stays : CatalogStays) (one : OnePlaceOfName) (opening : List TableDef)
 
   is_whole : IsWhole opening contents
   is_whole = record {
+    present = Present;
+    entries = present;
     rows = λ place body e. rows_at place.0 place.1 body e;
     pending = λ place body e. absurd (let no = sym e ∙ ap (λ (bodies : Bodies). get bodies place) shows.pending ∙ get-empty place_cmp place in cc);
-    entries = bodies_at;
     names = names_at;
   }
 
@@ -161,9 +133,11 @@ module _ (stays : CatalogStays) (one : OnePlaceOfName) (opening : List TableDef)
     whole = is_whole;
     values = shows.values;
     pending = shows.pending;
-    entries = λ version less. entry_there version (subst (λ (n : ℕ). version < n) shows.entries.counted less);
+    entries = has_each;
   }
 
-pub hub_is_opened : CatalogStays → OnePlaceOfName → HubIsOpened
-hub_is_opened stays one opening contents log are shows =
-    (not_nothing stays one opening contents log are shows, hub_store stays one opening contents log are shows)
+pub hub_is_opened : CatalogsAreTables → LogDecodes → BodiesInOrder → OnePlaceOfName → HubIsOpened
+hub_is_opened catalogs decodes in_order one opening contents log are shows = (
+  not_nothing catalogs decodes in_order one opening contents log are shows,
+  hub_store catalogs decodes in_order one opening contents log are shows,
+)

@@ -17,5 +17,6 @@ pub fn hub_is_opened()
     ensures { HubIsOpened }
 {
     cs_value::laws::catalogs();
-    cs_store::log::laws::catalog_stays();
+    cs_store::laws::decoding();
+    cs_store::log::laws::catalogs_are_tables();
 }

@@ -12,6 +12,7 @@ use Rattle.cs_store.specs.Contents.{Contents, IsListing, Log, StorePlace, log_co
 use Rattle.cs_store.specs.Whole.{AtTable, IsWhole, StoresChange, StoresRow}
 use Rattle.cs_store.specs.Written.{pairs_of}
 use Rattle.cs_store.specs.declared.store.StoredBody.{StoredBody}
+use Rattle.cs_opening.proofs.NoLog.{HoldsTheirs, empty_log, theirs}
 use Rattle.cs_opening.specs.copying.Copied.{HoldsRowsAlone}
 use Rattle.cs_opening.specs.copying.Steps.{AreCopied, HasOurNames}
 use Rattle.cs_opening.proofs.CopyingLemmas.Maps.{key_refl, no_bodies, none_at, not_both, same_bodies}
@@ -48,6 +49,9 @@ some_listed table (row ∷ listed) listing none =
 -- ---- the whole
 
 module _ (tables : List TableDef) (contents copy : Contents) (whole : IsWhole tables contents) (log : contents.log ≡ empty) (copied : AreCopied contents copy (length tables)) where
+  held : HoldsTheirs tables contents
+  held = theirs tables contents (empty_log contents log) whole
+
   -- what stands at a place is under the number of a table
   under : (Stores : TableDef → List ℕ → List ℕ → Type 0) (place : StorePlace) (body : List ℕ) → AtTable Stores tables place body → (number : ℕ) × (place.0 ≡ pos number) × (number < length tables)
   under Stores place body (number, table, is, found, stored) = (number, is, slice_get_within tables number table found)
@@ -66,17 +70,17 @@ module _ (tables : List TableDef) (contents copy : Contents) (whole : IsWhole ta
   row_at (pos n) key =
       elim (cases_lt n (length tables)) [
         | inl less ↦ copied.rows n key less
-        | inr from ↦ copied.later n key from ∙ sym (none_at (get contents.rows (pos n, key)) (λ body is. past StoresRow n key body from (whole.rows (pos n, key) body is)))
+        | inr from ↦ copied.later n key from ∙ sym (none_at (get contents.rows (pos n, key)) (λ body is. past StoresRow n key body from (held.rows (pos n, key) body is)))
       ]
-  row_at (negsuc n) key = copied.before n key ∙ sym (none_at (get contents.rows (negsuc n, key)) (λ body is. below StoresRow n key body (whole.rows (negsuc n, key) body is)))
+  row_at (negsuc n) key = copied.before n key ∙ sym (none_at (get contents.rows (negsuc n, key)) (λ body is. below StoresRow n key body (held.rows (negsuc n, key) body is)))
 
   pending_at : (z : ℤ) (key : List ℕ) → get contents.pending (z, key) ≡ None
   pending_at (pos n) key =
       elim (cases_lt n (length tables)) [
         | inl less ↦ copied.settled n key less
-        | inr from ↦ none_at (get contents.pending (pos n, key)) (λ body is. past StoresChange n key body from (whole.pending (pos n, key) body is))
+        | inr from ↦ none_at (get contents.pending (pos n, key)) (λ body is. past StoresChange n key body from (held.pending (pos n, key) body is))
       ]
-  pending_at (negsuc n) key = none_at (get contents.pending (negsuc n, key)) (λ body is. below StoresChange n key body (whole.pending (negsuc n, key) body is))
+  pending_at (negsuc n) key = none_at (get contents.pending (negsuc n, key)) (λ body is. below StoresChange n key body (held.pending (negsuc n, key) body is))
 
   pub is_copy : HoldsRowsAlone tables contents × (copy ≡ contents)
   is_copy =

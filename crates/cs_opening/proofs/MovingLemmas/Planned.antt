@@ -59,6 +59,7 @@ module _ (tables : List TableDef) (id : ℕ) (old : Contents) where
       let whole = law tables position (moved tables changes old) are stands.shows in
       record {
         whole = record {
+          present = whole.present;
           rows = whole.rows;
           pending = λ place body e. absurd (let no = sym e ∙ ap (λ (bodies : Bodies). get bodies place) keeps.alone ∙ get-empty place_cmp place in cc);
           entries = whole.entries;

@@ -251,9 +251,9 @@ ids_are part.Log schema has = in_front part.Log ids_front.2 schema has
 abbrev pub place_terms : List Term
 place_terms = col 1 1 ∷ col 1 2 ∷ col 1 3 ∷ []
 
--- all of a table
-abbrev pub all_in : ℕ → List Term → Query
-all_in tree terms = query_on tree [] terms []
+-- all of a table, in this order
+abbrev pub all_in : ℕ → List Term → List (Term × Key) → Query
+all_in tree terms order = query_on tree [] terms order
 
 abbrev pub terms_of : Part → List Term
 terms_of part.Rows = place_terms
@@ -261,13 +261,19 @@ terms_of part.Pending = place_terms
 terms_of part.Meta = one_column 1
 terms_of part.Log = one_column 4
 
+abbrev pub order_of : Part → List (Term × Key)
+order_of part.Rows = []
+order_of part.Pending = []
+order_of part.Meta = []
+order_of part.Log = rising_by 0
+
 abbrev pub columns_of : Part → List (List ℕ)
 columns_of part.Rows = codes "tab" ∷ codes "key" ∷ codes "body" ∷ []
 columns_of part.Pending = codes "tab" ∷ codes "key" ∷ codes "body" ∷ []
 columns_of part.Meta = codes "name" ∷ []
 columns_of part.Log = codes "body" ∷ []
 
-pub all_is : (p : Part) → (command_of (understood store_schema (all_text p)) ≡ Select (record { lets = []; body = all_in (tree_with p) (terms_of p) }) (columns_of p)) × (reads_listing store_schema (all_text p) ≡ false)
+pub all_is : (p : Part) → (command_of (understood store_schema (all_text p)) ≡ Select (record { lets = []; body = all_in (tree_with p) (terms_of p) (order_of p) }) (columns_of p)) × (reads_listing store_schema (all_text p) ≡ false)
 unfolding understood everything
 all_is part.Rows = (refl, refl)
 all_is part.Pending = (refl, refl)

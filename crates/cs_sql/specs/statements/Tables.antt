@@ -54,12 +54,12 @@ select_log_text = codes "SELECT origin, number, body FROM log WHERE version = ?1
 abbrev pub list_log_text : List ℕ
 list_log_text = codes "SELECT origin, number, body, version FROM log WHERE version >= ?1 AND version < ?2 ORDER BY version"
 
--- the query that shows all that a table holds
+-- the query that shows all that a table holds, the log by its versions
 abbrev pub all_text : Part → List ℕ
 all_text part.Rows = codes "SELECT tab, key, body FROM rows"
 all_text part.Pending = codes "SELECT tab, key, body FROM pending"
 all_text part.Meta = codes "SELECT name FROM meta"
-all_text part.Log = codes "SELECT body FROM log"
+all_text part.Log = codes "SELECT body FROM log ORDER BY version"
 
 -- the query that shows its rowids
 abbrev pub ids_text : Part → List ℕ

@@ -1,23 +1,47 @@
 //! Whether all that the tables hold is what its places say.
 
-ghost use Rattle.std.specs.Prelude.{◌≡◌, ◌↔◌, ◌≤◌, ℕ, [], pos, length, false, IfOk, MatchOption, IsTrue, OnOk};
+ghost use Rattle.std.specs.Prelude.{◌≡◌, ◌↔◌, ◌≤◌, ◌++◌, ℕ, List, [], ◌∷◌, pos, length, map, true, false, IfOk, MatchOption, IsTrue, OnOk};
 ghost use Rattle.sqlite.specs.Held.{state};
 ghost use Rattle.sqlite.specs.State.{HasCleanDisk, Survives};
 ghost use Rattle.sqlite_value.specs.Order.{bytes};
 ghost use Rattle.sqlite_value.specs.Value.{owned};
-ghost use Rattle.cs_store.specs.Whole.{IsWhole};
-ghost use Rattle.cs_sql.specs.declared.parts.Part.TheVariants.{Rows, Pending, Meta, Log};
+ghost use Rattle.sqlite.specs.Order.{Row as Values};
+ghost use Rattle.cs_value.specs.Catalog.{AreTables};
+ghost use Rattle.cs_value.specs.declared.catalog.TableDef.{TableDef};
+ghost use Rattle.cs_store.specs.Whole.{AreJudged, IsPresent, IsWhole, log_bodies};
+ghost use Rattle.cs_sql.specs.declared.statements.checking.Unordered.TheVariants.{Rows, Pending, Meta};
 ghost use Rattle.cs_sql.specs.statements.Tables.{contents_in};
-ghost use Rattle.cs_sql.specs.statements.Steps.{IsReady, Stays};
-ghost use Rattle.cs_sql.specs.statements.Checked.{HasOwn, ShowsOwn};
+ghost use Rattle.cs_sql.specs.statements.Steps.{IsReady, Stays, body_read};
+ghost use Rattle.cs_sql.specs.statements.Checked.{HasOwn, ShowsOwn, part_of};
 
 use crate::parts::Part;
 use crate::statements::streaming::{Reader, read_ready};
-use cs_store::{is_body, is_change, is_name, is_row};
+use cs_store::laws::decoding;
+use cs_store::{Present, is_change, is_name, is_row};
 use cs_value::Catalog;
 use sqlite::{Alter, Connection, Error, Row};
 use sqlite_value::value::ValueRef;
 use std::alloc::Global;
+
+/// The tables of which each row is judged by itself. The bodies of the log are judged in order.
+#[derive(Clone, Copy)]
+pub enum Unordered {
+    Rows,
+    Pending,
+    Meta,
+}
+
+impl Unordered {
+    fn part(self) -> Part
+        ensures { result ≡ part_of self }
+    {
+        match self {
+            Unordered::Rows => Part::Rows,
+            Unordered::Pending => Part::Pending,
+            Unordered::Meta => Part::Meta,
+        }
+    }
+}
 
 /// The number of a table of the catalog, if it is one.
 fn table_number(catalog: &Catalog, number: i64) -> Option<u32>
@@ -76,22 +100,13 @@ fn shows_name(row: &Row) -> Result<bool, Error>
     Ok(is_name(bytes_of(&value)))
 }
 
-/// Whether the body of an entry decodes.
-fn shows_body(alloc: Global, catalog: &Catalog, row: &Row) -> Result<bool, Error>
-    ensures { IfOk result (λ own. IsTrue own ↔ ShowsOwn Log catalog.now row.now) }
-{
-    let body = row.get_ref(0)?;
-    Ok(is_body(alloc, catalog, bytes_of(&body))?)
-}
-
-fn shows_own(alloc: Global, catalog: &Catalog, part: Part, row: &Row) -> Result<bool, Error>
+fn shows_own(alloc: Global, catalog: &Catalog, part: Unordered, row: &Row) -> Result<bool, Error>
     ensures { IfOk result (λ own. IsTrue own ↔ ShowsOwn part catalog.now row.now) }
 {
     match part {
-        Part::Rows => shows_row(alloc, catalog, row),
-        Part::Pending => shows_change(alloc, catalog, row),
-        Part::Meta => shows_name(row),
-        Part::Log => shows_body(alloc, catalog, row),
+        Unordered::Rows => shows_row(alloc, catalog, row),
+        Unordered::Pending => shows_change(alloc, catalog, row),
+        Unordered::Meta => shows_name(row),
     }
 }
 
@@ -100,13 +115,13 @@ fn shows_own(alloc: Global, catalog: &Catalog, part: Part, row: &Row) -> Result<
 struct Judge<'a> {
     alloc: Global,
     catalog: &'a Catalog,
-    part: Part,
+    part: Unordered,
     /// Whether each so far is one that the table may hold.
     all_own: bool,
 }
 
 impl<'a> Judge<'a> {
-    fn new(alloc: Global, catalog: &'a Catalog, part: Part) -> Judge<'a>
+    fn new(alloc: Global, catalog: &'a Catalog, part: Unordered) -> Judge<'a>
         ensures { (result.part ≡ part) × (result.catalog.now ≡ catalog.now) × IsTrue result.all_own }
     {
         Judge {
@@ -148,7 +163,7 @@ fn check_part<S: Alter>(
     alloc: Global,
     conn: &mut Connection<S>,
     catalog: &Catalog,
-    part: Part,
+    part: Unordered,
 ) -> Result<bool, Error>
     requires idle { conn.old.in_transaction ≡ false }
     requires ready { HasCleanDisk (state S.Store conn.old) → IsTrue (state S.Store conn.old).is_open → IsReady (state S.Store conn.old) }
@@ -158,14 +173,91 @@ fn check_part<S: Alter>(
     ensures survives { Survives (state S.Store conn.old) (state S.Store conn.new) (λ _. ⊥) }
 {
     let mut judge = Judge::new(alloc, catalog, part);
-    read_ready(conn, part.query(), &[], &mut judge)?;
+    read_ready(conn, part.part().query(), &[], &mut judge)?;
     Ok(judge.all_own)
 }
 
-fn all_four(rows: bool, pending: bool, meta: bool, log: bool) -> bool
-    ensures { IsTrue result ↔ (IsTrue rows × IsTrue pending × IsTrue meta × IsTrue log) }
+/// Judges the bodies of the log, one after another.
+#[derive(Drop)]
+struct LogJudge<'a> {
+    alloc: Global,
+    /// The catalog behind those that decode.
+    present: Present<'a>,
+    /// Whether each so far does.
+    decode: bool,
+}
+
+impl<'a> LogJudge<'a> {
+    fn new(alloc: Global, catalog: &'a Catalog) -> LogJudge<'a>
+        ensures { (result.present ≡ catalog.now) × IsTrue result.decode }
+    {
+        LogJudge {
+            alloc,
+            present: Present::new(catalog),
+            decode: true,
+        }
+    }
+
+    /// Judges one more.
+    fn judge(&mut self, row: &Row) -> Result<(), Error>
+        ensures { OnOk result ((opening : List TableDef) (rows : List Values) → AreTables opening
+            → AreJudged opening (map body_read rows) self.old.decode self.old.present
+            → AreJudged opening (map body_read (rows ++ row.now ∷ [])) self.new.decode self.new.present) }
+    {
+        decoding();
+        if self.decode {
+            let body = row.get_ref(0)?;
+            self.decode = self.present.judge_body(self.alloc, bytes_of(&body))?;
+        }
+        Ok(())
+    }
+}
+
+impl Reader for LogJudge<'_> {
+    ghost use Rattle.std.specs.Prelude.{◌≡◌, true, map};
+    ghost use Rattle.cs_value.specs.Catalog.{AreTables};
+    ghost use Rattle.cs_store.specs.Whole.{AreJudged};
+    ghost use Rattle.cs_sql.specs.statements.Steps.{body_read};
+
+    ghost has_read = { λ start judge rows. AreTables start.present → start.decode ≡ true → AreJudged start.present (map body_read rows) judge.decode judge.present };
+
+    ghost tells = { λ _. Unit {0} };
+
+    fn read(&mut self, row: &Row) -> Result<(), Error> {
+        self.judge(row)
+    }
+}
+
+/// The catalog behind the last entry, if the bodies of the log decode.
+fn check_log<'a, S: Alter>(
+    alloc: Global,
+    conn: &mut Connection<S>,
+    catalog: &'a Catalog,
+) -> Result<Option<Present<'a>>, Error>
+    requires idle { conn.old.in_transaction ≡ false }
+    requires ready { HasCleanDisk (state S.Store conn.old) → IsTrue (state S.Store conn.old).is_open → IsReady (state S.Store conn.old) }
+    ensures idle { conn.new.in_transaction ≡ false }
+    ensures ok { HasCleanDisk (state S.Store conn.new) → IfOk result (λ behind. IsTrue (state S.Store conn.old).is_open × MatchOption behind
+        (AreJudged catalog.now (log_bodies (contents_in (state S.Store conn.old).now.trees)) false catalog.now)
+        (λ present. IsPresent catalog.now (contents_in (state S.Store conn.old).now.trees) present)) }
+    ensures same { HasCleanDisk (state S.Store conn.new) → Stays (state S.Store conn.old) (state S.Store conn.new) }
+    ensures survives { Survives (state S.Store conn.old) (state S.Store conn.new) (λ _. ⊥) }
 {
-    rows && pending && meta && log
+    let _ = catalog.tables();
+    let mut judge = LogJudge::new(alloc, catalog);
+    read_ready(conn, Part::Log.query(), &[], &mut judge)?;
+    let LogJudge {
+        present,
+        decode,
+        ..
+    } = judge;
+    if decode { Ok(Some(present)) } else { Ok(None) }
+}
+
+fn all_three(rows: bool, pending: bool, meta: bool) -> bool
+    ensures { IsTrue result ↔ (IsTrue rows × IsTrue pending × IsTrue meta) }
+{
+    rows && pending && meta
 }
 
 /// Whether all that the store holds is what its places say.
@@ -181,9 +273,14 @@ pub fn check_store<S: Alter>(
     ensures same { HasCleanDisk (state S.Store conn.new) → Stays (state S.Store conn.old) (state S.Store conn.new) }
     ensures survives { Survives (state S.Store conn.old) (state S.Store conn.new) (λ _. ⊥) }
 {
-    let rows = check_part(alloc, conn, catalog, Part::Rows)?;
-    let pending = check_part(alloc, conn, catalog, Part::Pending)?;
-    let meta = check_part(alloc, conn, catalog, Part::Meta)?;
-    let log = check_part(alloc, conn, catalog, Part::Log)?;
-    Ok(all_four(rows, pending, meta, log))
+    decoding();
+    let _ = catalog.tables();
+    let Some(present) = check_log(alloc, conn, catalog)? else {
+        return Ok(false);
+    };
+    let catalog = present.catalog();
+    let rows = check_part(alloc, conn, catalog, Unordered::Rows)?;
+    let pending = check_part(alloc, conn, catalog, Unordered::Pending)?;
+    let meta = check_part(alloc, conn, catalog, Unordered::Meta)?;
+    Ok(all_three(rows, pending, meta))
 }

@@ -26,10 +26,8 @@ use Rattle.cs_normal.specs.keyed.NormalForm.{change_key, marked_fields, normal_f
 use Rattle.cs_normal.specs.Laws.{FittingIsNormal}
 use Rattle.cs_normal.specs.Normal.{FitsCatalog, IsNormalTable, normal_spelling, table_spelling}
 use Rattle.cs_normal.specs.declared.normal.TableChanges.{TableChanges}
-use Rattle.cs_store.specs.log.Stored.{IsStoredBody}
-use Rattle.cs_store.specs.declared.log.body.Body.TheVariants.{Changes as with_changes}
 use Rattle.cs_store.specs.declared.log.entry.TheConstants.{MAX_CHANGESET}
-use Rattle.cs_store.specs.log.Steps.{AreNextChanges, HasKeyAbove, IsChangeAt, IsNextChange, IsNextTable, IsTableBefore, SpellsChanges, changes_bytes}
+use Rattle.cs_store.specs.log.Steps.{AreNextChanges, HasKeyAbove, IsChangeAt, IsNextChange, IsNextTable, IsTableBefore, SpellsChanges, StoresChanges, changes_bytes}
 
 -- ---- one change
 
@@ -242,6 +240,6 @@ all_tables fitting tables left_tables bytes left are so_far none =
 
 -- ---- with the kind in front
 
-pub stored_seen : (tables : List TableDef) (bytes changeset : List ℕ) → bytes ≡ 0 ∷ changeset → length changeset ≤ MAX_CHANGESET → SpellsChanges tables changeset → IsStoredBody tables bytes
+pub stored_seen : (tables : List TableDef) (bytes changeset : List ℕ) → bytes ≡ 0 ∷ changeset → length changeset ≤ MAX_CHANGESET → SpellsChanges tables changeset → StoresChanges tables bytes
 stored_seen tables bytes changeset is short (changes, are, spelled) =
-    (with_changes changes, record { changes = are; widens = tt; size = subst (λ (bs : List ℕ). length bs ≤ MAX_CHANGESET) spelled short }, is ∙ ap (λ (bs : List ℕ). 0 ∷ bs) spelled)
+    (changes, record { changes = are; widens = tt; size = subst (λ (bs : List ℕ). length bs ≤ MAX_CHANGESET) spelled short }, is ∙ ap (λ (bs : List ℕ). 0 ∷ bs) spelled)

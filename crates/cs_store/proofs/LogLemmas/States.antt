@@ -1,6 +1,6 @@
 -- The states that a log makes, entry by entry.
-use Rattle.std.proofs.Common.{◌≡◌, ℕ, zero, suc, ◌+◌, ◌≤◌, Bool, true, false, List, [], ◌∷◌, ◌++◌, take, drop, length, Option, Some, None, slice_get, refl, sym, ap, subst, map, append_assoc, ◌∙◌, arith}
-use Rattle.std.specs.Option.{IsSome, option_map, unwrap_or}
+use Rattle.std.proofs.Common.{◌≡◌, ℕ, zero, suc, ◌+◌, ◌≤◌, true, false, List, [], ◌∷◌, ◌++◌, take, drop, length, Option, Some, None, slice_get, refl, sym, ap, subst, map, append_assoc, ◌∙◌, arith}
+use Rattle.std.specs.Option.{IsSome, unwrap_or}
 use Rattle.std.specs.List.{All, fold}
 use Rattle.std.specs.Str.{bytes_eq}
 use Rattle.std.proofs.Math.Seq.{take-length}
@@ -13,7 +13,7 @@ use Rattle.cs_value.specs.Key.{Place}
 use Rattle.cs_value.specs.declared.catalog.TableDef.{TableDef}
 use Rattle.cs_change.specs.Action.{action_any, after_any}
 use Rattle.cs_normal.specs.Normal.{IsNormalChangeset, change_of}
-use Rattle.cs_normal.specs.State.{State, left_at, AreApplied, AreSame, IsApplied, IsDefinedOn, AppliedIsNet, IsStateOf, MayStandAt}
+use Rattle.cs_normal.specs.State.{State, left_at, AreApplied, IsApplied, IsDefinedOn, AppliedIsNet, IsStateOf, MayStandAt}
 use Rattle.cs_widening.specs.Laws.{WidenedAreTables, WidenedIsState}
 use Rattle.cs_widening.specs.Widening.{widened, widened_place, widened_tables}
 use Rattle.cs_store.specs.log.Entry.{MayWiden, WidensNone, changes_of_body, entry_changes, widening_is_off}

@@ -1,11 +1,10 @@
 -- Logs as they are stored: there is one.
-use Rattle.std.proofs.Common.{◌≡◌, ℕ, zero, suc, List, [], ◌∷◌, ◌++◌, length, Option, Some, None, slice_get, refl, sym, ap, subst, ◌∙◌}
+use Rattle.std.proofs.Common.{◌≡◌, ℕ, zero, suc, List, [], ◌∷◌, ◌++◌, length, Option, Some, slice_get, refl, sym, ap, subst, ◌∙◌}
 use Rattle.std.specs.Option.{option_map}
 use Rattle.cs_value.specs.Catalog.{AreTables}
 use Rattle.cs_value.specs.declared.catalog.TableDef.{TableDef}
 use Rattle.cs_store.specs.log.Laws.{CatalogsAreTables, OneBody, OneStoredLog, stored_entry}
 use Rattle.cs_store.specs.log.Log.{IsLog, IsNextEntry, catalog_at}
-use Rattle.cs_store.specs.log.Stored.{stored_body}
 use Rattle.cs_store.specs.declared.log.body.Body.{Body}
 use Rattle.cs_store.specs.declared.log.entry.LogEntry.{LogEntry}
 use Rattle.cs_store.proofs.LogLemmas.Logs.{appended_is_log, empty_is_log}

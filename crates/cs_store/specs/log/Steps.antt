@@ -13,9 +13,9 @@ use Rattle.cs_normal.specs.keyed.NormalForm.{change_bytes, has_key}
 use Rattle.cs_normal.specs.Normal.{FitsCatalog, IsNormalTable, normal_spelling, table_spelling}
 use Rattle.cs_normal.specs.declared.normal.TableChanges.{TableChanges}
 use Rattle.cs_store.specs.log.Entry.{MayWiden, widen_spelling, widening_is_on}
-use Rattle.cs_store.specs.log.Stored.{AreChangesOf}
+use Rattle.cs_store.specs.log.Stored.{AreChangesOf, FitsBody, stored_body}
 use Rattle.cs_store.specs.declared.log.body.Body.{Body}
-use Rattle.cs_store.specs.declared.log.body.Body.TheVariants.{Widen}
+use Rattle.cs_store.specs.declared.log.body.Body.TheVariants.{Changes as WithChanges, Widen}
 use Rattle.cs_store.specs.declared.log.fault.BodyFault.{BodyFault}
 use Rattle.cs_store.specs.declared.log.fault.BodyFault.TheVariants.{Memory, NoBody}
 
@@ -70,6 +70,11 @@ pub record IsNextTable (tables more : List TableDef) (bytes rest : List ℕ) : T
 abbrev pub SpellsChanges : List TableDef → List ℕ → Type 0
 SpellsChanges tables bytes =
     (changes : List TableChanges) × AreChangesOf tables changes × (bytes ≡ normal_spelling changes)
+
+-- and are those that a body with it is stored as
+abbrev pub StoresChanges : List TableDef → List ℕ → Type 0
+StoresChanges tables bytes =
+    (changes : List TableChanges) × FitsBody tables (WithChanges changes) × (bytes ≡ stored_body (WithChanges changes))
 
 -- the table has the name and may be widened to so many columns
 abbrev pub WidensTable : List ℕ → ℕ → TableDef → Type 0

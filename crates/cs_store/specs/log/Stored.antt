@@ -33,10 +33,6 @@ pub record FitsBody (tables : List TableDef) (body : Body) : Type 0 where
   pub widens : MayWiden tables body
   pub size : IsWithinBound body
 
--- the bytes are those that a body of these tables is stored as
-abbrev pub IsStoredBody : List TableDef → List ℕ → Type 0
-IsStoredBody tables bytes = (body : Body) × FitsBody tables body × (bytes ≡ stored_body body)
-
 -- an entry of these tables that may be stored
 abbrev pub IsEntryOf : List TableDef → LogEntry → Type 0
 IsEntryOf tables entry = FitsBody tables entry.body

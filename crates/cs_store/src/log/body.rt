@@ -168,7 +168,7 @@ pub fn read_changes(alloc: Global, catalog: &Catalog, bytes: &[u8]) -> Result<No
 }
 
 /// Whether an entry may widen a table. None may yet: what stands above does not take one.
-fn widening_is_on() -> bool
+pub fn widening_is_on() -> bool
     ensures { result ≡ MayBeWidened }
 {
     false

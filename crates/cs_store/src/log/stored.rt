@@ -1,15 +1,13 @@
-//! Whether bytes are those that a body is stored as. Nearly all are, and the bytes show it where they stand. The groups are the
+//! Whether bytes are those that a body with changes is stored as. Nearly all are, and the bytes show it where they stand. The groups are the
 //! catalog's tables in order, and the changes of each are in normal form, in the order of their keys.
 
 ghost use Rattle.std.specs.Prelude.{◌≡◌, ◌↔◌, IfOk, IfSome, IsTrue, map};
 ghost use Rattle.cs_change.specs.Spelling.{flag_byte, marks_of};
 ghost use Rattle.cs_changeset.specs.Steps.{EndsGroup};
-ghost use Rattle.cs_store.specs.log.Steps.{AreNextChanges, HasKeyAbove, IsChangeAt, IsNextChange, IsNextTable, IsTableBefore, SpellsChanges};
-ghost use Rattle.cs_store.specs.log.Stored.{IsStoredBody};
+ghost use Rattle.cs_store.specs.log.Steps.{AreNextChanges, HasKeyAbove, IsChangeAt, IsNextChange, IsNextTable, IsTableBefore, SpellsChanges, StoresChanges};
 
-use crate::log::body::{CHANGES, read_body};
+use crate::log::body::CHANGES;
 use crate::log::entry::MAX_CHANGESET;
-use crate::log::fault::BodyFault;
 use cs_change::TABLE;
 use cs_changeset::{Change, Group, HeadedGroup, read_header};
 use cs_normal::keyed::{is_normal, put_key};
@@ -17,7 +15,7 @@ use cs_normal::laws::fitting_is_normal;
 use cs_normalising::laws::normal_form_keeps;
 use cs_order::compare_bytes;
 use cs_value::{Catalog, Memory, TableDef};
-use std::alloc::{AllocError, Global};
+use std::alloc::Global;
 use std::cmp::Ordering;
 use std::mem;
 
@@ -190,9 +188,9 @@ fn are_changes(alloc: Global, catalog: &Catalog, bytes: &[u8]) -> Result<bool, M
     Ok(true)
 }
 
-/// Whether the bytes are seen to be those that a body is stored as.
-fn is_seen(alloc: Global, catalog: &Catalog, bytes: &[u8]) -> Result<bool, Memory>
-    ensures { IfOk result (λ is. IsTrue is → IsStoredBody catalog.now bytes.now) }
+/// Whether the bytes are seen to be those that a body with changes is stored as.
+pub(crate) fn is_seen(alloc: Global, catalog: &Catalog, bytes: &[u8]) -> Result<bool, Memory>
+    ensures { IfOk result (λ is. IsTrue is → StoresChanges catalog.now bytes.now) }
 {
     let Some((kind, changeset)) = bytes.split_first() else {
         return Ok(false);
@@ -202,23 +200,4 @@ fn is_seen(alloc: Global, catalog: &Catalog, bytes: &[u8]) -> Result<bool, Memor
     }
     let are = are_changes(alloc, catalog, changeset)?;
     Ok(are)
-}
-
-/// Whether the bytes are those that a body of the catalog's tables is stored as. Where that isn't seen in the bytes as they stand,
-/// they are read, as `read_body` does.
-///
-/// # Errors
-///
-/// `Memory` where memory was refused.
-pub fn is_stored_body(alloc: Global, catalog: &Catalog, bytes: &[u8]) -> Result<bool, Memory>
-    ensures { IfOk result (λ is. IsTrue is ↔ IsStoredBody catalog.now bytes.now) }
-{
-    if is_seen(alloc, catalog, bytes)? {
-        return Ok(true);
-    }
-    match read_body(alloc, catalog, bytes) {
-        Ok(_body) => Ok(true),
-        Err(BodyFault::NoBody) => Ok(false),
-        Err(BodyFault::Memory) => Err(AllocError),
-    }
 }
