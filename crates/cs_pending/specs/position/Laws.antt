@@ -1,5 +1,5 @@
 -- The laws of positions.
-use Rattle.std.specs.Prelude.{◌≡◌, ◌≤◌, ◌<◌, ◌^◌, ℕ, List, None, Contains}
+use Rattle.std.specs.Prelude.{◌≡◌, ◌≤◌, ◌<◌, ◌^◌, ℕ, List, length, None, Contains}
 use Rattle.std.specs.FinMap.{len}
 use Rattle.cs_value.specs.Catalog.{AreTables}
 use Rattle.cs_value.specs.declared.catalog.TableDef.{TableDef}
@@ -31,6 +31,22 @@ CommitShows =
     → new.pending ≡ len (after_batch batch contents).pending
     → new.number ≤ LAST_NUMBER
     → ShowsAt tables (after_batch batch contents) new view
+
+-- the same where it leads to other tables too, of which there are as many
+abbrev pub CommitShowsOthers : Type 0
+CommitShowsOthers =
+    (tables others : List TableDef) (contents : Contents) (batch : Batch) (old new : Position) (seen view : View)
+    → length others ≡ length tables
+    → ShowsAt tables contents old seen
+    → AreWithin others batch.rows
+    → AreWithin others batch.pending
+    → batch.log ≡ None
+    → ((name : MetaName) → value_after batch.meta.items name (value_of tables old name) ≡ value_of others new name)
+    → ShowsRows others (after_batch batch contents) view
+    → IsUnderWay others new.flight view
+    → new.pending ≡ len (after_batch batch contents).pending
+    → new.number ≤ LAST_NUMBER
+    → ShowsAt others (after_batch batch contents) new view
 
 -- the numbers of a position are in range
 pub record FitsPosition (position : Position) : Type 0 where

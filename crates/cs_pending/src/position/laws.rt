@@ -1,7 +1,7 @@
 //! The laws of positions, each the contract of a function that does nothing.
 
 ghost use Rattle.std.specs.Prelude.{◌≡◌};
-ghost use Rattle.cs_pending.specs.position.Laws.{CommitShows, OnePosition};
+ghost use Rattle.cs_pending.specs.position.Laws.{CommitShows, CommitShowsOthers, OnePosition};
 ghost use Rattle.cs_pending.specs.declared.position.position.TheConstants.{LAST_NUMBER};
 
 /// The last number that a push may have.
@@ -13,6 +13,13 @@ pub fn last_number()
 /// replica there.
 pub fn commit_shows()
     ensures { CommitShows }
+{
+    cs_store::laws::commits();
+}
+
+/// The same where its values lead to other tables too, of which there are as many.
+pub fn commit_shows_others()
+    ensures { CommitShowsOthers }
 {
     cs_store::laws::commits();
 }
