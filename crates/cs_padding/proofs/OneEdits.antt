@@ -1,5 +1,5 @@
 -- Edits that rise and change what stands there are known by what they leave.
-use Rattle.std.proofs.Common.{◌≡◌, ◌≢◌, ◌<◌, ◌≤◌, ◌^◌, ◌∙◌, ◌&&◌, ◌⊎◌, inl, inr, ℕ, Bool, List, [], ◌∷◌, cond, get_or, length, map, take, Option, Some, None, option_map, T, true, false, refl, ap, ap₂, subst, sym, arith}
+use Rattle.std.proofs.Common.{◌≡◌, ◌≢◌, ◌<◌, ◌≤◌, ◌^◌, ◌∙◌, ◌&&◌, ◌⊎◌, inl, inr, ℕ, Bool, List, [], ◌∷◌, cond, get_or, is_some, length, map, take, Option, Some, None, option_map, T, true, false, refl, ap, ap₂, subst, sym, arith}
 use Rattle.std.specs.Prelude.{nat_eq, slice_get}
 use Rattle.std.specs.FinMap.{find, is_sorted}
 use Rattle.std.specs.FinMap.Entries.{below_all}
@@ -21,8 +21,10 @@ use Rattle.cs_change.specs.Spelling.{change_spelling}
 use Rattle.cs_value.specs.Facts.{by_test, head_same, some_same, tail_same}
 use Rattle.cs_order.specs.Order.{by_bytes, same_bytes}
 use Rattle.cs_pending.specs.Spots.{and_left, and_right, key_is, key_refl}
+use Rattle.cs_pending.specs.Steps.{map_there, none_left}
+use Rattle.cs_pending.specs.View.{Changed}
 use Rattle.cs_pending.specs.rows.Listings.{each_found}
-use Rattle.cs_store.specs.Contents.{stored_pending, stored_tables}
+use Rattle.cs_store.specs.Contents.{Contents, stored_pending, stored_tables}
 use Rattle.cs_store.specs.Laws.{OneListing, row_after}
 use Rattle.cs_store.specs.States.{AreEdits, edit_place, place_bytes}
 use Rattle.cs_store.specs.edits.Edits.{BodyEdit}
@@ -100,7 +102,7 @@ finds edit edits rises among =
 -- ---- what they leave
 
 -- the edit is of this place
-abbrev IsAt : ℕ → List ℕ → BodyEdit → Type 0
+abbrev pub IsAt : ℕ → List ℕ → BodyEdit → Type 0
 IsAt number key edit = (edit.table ≡ number) × (edit.key ≡ key)
 
 abbrev Left : ℕ → List ℕ → Option (List ℕ) → List BodyEdit → Type 0
@@ -112,7 +114,7 @@ step : (number : ℕ) (key : List ℕ) (edit : BodyEdit) (edits : List BodyEdit)
     → row_after (edit ∷ edits) number key stood ≡ row_after edits number key (cond t edit.body stood)
 step number key edit edits stood t e = ap (λ (b : Bool). row_after edits number key (cond b edit.body stood)) e
 
-at_is : (number : ℕ) (key : List ℕ) (edit : BodyEdit) → (nat_eq number edit.table && same_bytes key edit.key) ≡ true → IsAt number key edit
+pub at_is : (number : ℕ) (key : List ℕ) (edit : BodyEdit) → (nat_eq number edit.table && same_bytes key edit.key) ≡ true → IsAt number key edit
 at_is number key edit e = (
   sym ((Decides-eqb number edit.table).0 (and_left (nat_eq number edit.table) (same_bytes key edit.key) e)),
   sym (key_is key edit.key (and_right (nat_eq number edit.table) (same_bytes key edit.key) e)),
@@ -226,6 +228,30 @@ edits_told count few (edit ∷ some) (other ∷ others) p q e =
 edits_told count few [] (other ∷ others) p q e = absurd (let no = e in cc)
 edits_told count few (edit ∷ some) [] p q e = absurd (let no = e in cc)
 
+-- ---- edits of places where something stands and stays
+
+module _ (stored : ℕ → List ℕ → Option (List ℕ)) (count : ℕ) (target : ℕ → List ℕ → Option (List ℕ)) (edits : List BodyEdit) (makes : Makes stored count target edits)
+    (same : (number : ℕ) (key : List ℕ) → number < count → is_some (target number key) ≡ is_some (stored number key)) where
+  -- a body is set where one stands
+  abbrev pub IsSet : BodyEdit → Type 0
+  IsSet edit = (is_some edit.body ≡ true) × (is_some (stored edit.table edit.key) ≡ true)
+
+  one_set : (edit : BodyEdit) → Among edit edits → IsSet edit
+  one_set edit among =
+      let less = all_among (λ (one : BodyEdit). one.table < count) edit edits makes.within among in
+      let is = sets stored count target edits makes edit among in
+      let changes = all_among (λ (one : BodyEdit). one.body ≢ stored one.table one.key) edit edits makes.changing among in
+      let alike : is_some edit.body ≡ is_some (stored edit.table edit.key) = ap is_some is ∙ same edit.table edit.key less in
+      by_test (is_some (stored edit.table edit.key)) _ (λ t. (alike ∙ t, t))
+      (λ f. absurd (changes (none_left edit.body (alike ∙ f) ∙ sym (none_left (stored edit.table edit.key) f))))
+
+  each_set : (rest : List BodyEdit) → ((edit : BodyEdit) → Among edit rest → Among edit edits) → AllByRecursion IsSet rest
+  each_set [] within = tt
+  each_set (edit ∷ rest) within = (one_set edit (within edit (inl refl)), each_set rest (λ other among. within other (inr among)))
+
+  pub all_set : AllByRecursion IsSet edits
+  all_set = each_set edits (λ edit among. among)
+
 -- there is one list
 pub one_edits : OneListing → (stored target : ℕ → List ℕ → Option (List ℕ)) (count : ℕ) → count ≤ 2 ^ 32 → (some others : List BodyEdit) → Makes stored count target some → Makes stored count target others → some ≡ others
 one_edits one stored target count few some others makes make =
@@ -237,11 +263,11 @@ one_edits one stored target count few some others makes make =
 -- ---- of tables
 
 -- what is said of a table's name, at the table's place
-abbrev at_table : (List ℕ → List ℕ → Option (List ℕ)) → Option TableDef → List ℕ → Option (List ℕ)
+abbrev pub at_table : (List ℕ → List ℕ → Option (List ℕ)) → Option TableDef → List ℕ → Option (List ℕ)
 at_table held None key = None
 at_table held (Some table) key = held table.name key
 
-abbrev held_at : List TableDef → (List ℕ → List ℕ → Option (List ℕ)) → ℕ → List ℕ → Option (List ℕ)
+abbrev pub held_at : List TableDef → (List ℕ → List ℕ → Option (List ℕ)) → ℕ → List ℕ → Option (List ℕ)
 held_at tables held number key = at_table held (slice_get tables number) key
 
 there_is : (tables : List TableDef) (number : ℕ) → number < length tables → (table : TableDef) × (slice_get tables number ≡ Some table)
@@ -270,14 +296,27 @@ one_row_edits one tables contents some others end are p q =
       changing = recursion_from_All (λ (edit : BodyEdit). edit.body ≢ stored_tables contents edit.table edit.key) edits are_edits.changing;
     }
 
+pub pending_makes : (tables : List TableDef) (contents : Contents) (end : Changed) (edits : List BodyEdit) → ArePendingEdits tables contents edits end
+    → Makes (stored_pending contents) (length tables) (held_at tables (λ name key. option_map change_spelling (end name key))) edits
+pending_makes tables contents end edits are_edits = record {
+  written = written_at tables (λ name key. option_map change_spelling (end name key)) (λ number key. row_after edits number key (stored_pending contents number key)) are_edits.written;
+  within = recursion_from_All (λ (edit : BodyEdit). edit.table < length tables) edits are_edits.within;
+  rises = are_edits.rising;
+  changing = recursion_from_All (λ (edit : BodyEdit). edit.body ≢ stored_pending contents edit.table edit.key) edits are_edits.changing;
+}
+
 pub one_pending_edits : OneListing → OnePendingEdits
 one_pending_edits one tables contents some others end are p q =
-    one_edits one (stored_pending contents) (held_at tables (λ name key. option_map change_spelling (end name key))) (length tables) (few_tables tables are) some others (makes some p) (makes others q)
-  where
-    makes : (edits : List BodyEdit) → ArePendingEdits tables contents edits end → Makes (stored_pending contents) (length tables) (held_at tables (λ name key. option_map change_spelling (end name key))) edits
-    makes edits are_edits = record {
-      written = written_at tables (λ name key. option_map change_spelling (end name key)) (λ number key. row_after edits number key (stored_pending contents number key)) are_edits.written;
-      within = recursion_from_All (λ (edit : BodyEdit). edit.table < length tables) edits are_edits.within;
-      rises = are_edits.rising;
-      changing = recursion_from_All (λ (edit : BodyEdit). edit.body ≢ stored_pending contents edit.table edit.key) edits are_edits.changing;
-    }
+    one_edits one (stored_pending contents) (held_at tables (λ name key. option_map change_spelling (end name key))) (length tables) (few_tables tables are) some others
+    (pending_makes tables contents end some p) (pending_makes tables contents end others q)
+
+-- edits that leave a change where there was one, and none elsewhere, set a body where one stands
+pub all_set_of : (tables : List TableDef) (contents : Contents) (end : Changed) (edits : List BodyEdit) → ArePendingEdits tables contents edits end
+    → ((number : ℕ) (table : TableDef) (key : List ℕ) → slice_get tables number ≡ Some table → is_some (end table.name key) ≡ is_some (stored_pending contents number key))
+    → AllByRecursion (λ (edit : BodyEdit). (is_some edit.body ≡ true) × (is_some (stored_pending contents edit.table edit.key) ≡ true)) edits
+all_set_of tables contents end edits are_edits same =
+    all_set (stored_pending contents) (length tables) (held_at tables (λ name key. option_map change_spelling (end name key))) edits (pending_makes tables contents end edits are_edits)
+    (λ number key less.
+    let table = there_is tables number less in
+    ap (λ (found : Option TableDef). is_some (at_table (λ name k. option_map change_spelling (end name k)) found key)) table.1
+    ∙ map_there change_spelling (end table.0.name key) ∙ same number table.0 key table.1)

@@ -166,7 +166,7 @@ sound_widens one_key net_widens fit states tables name width changed after are c
 
 -- ---- a store that shows it
 
-pending_fits : (tables : List TableDef) (name : List ℕ) (width : ℕ) (pending : Changed) → ((table : TableDef) (key : List ℕ) → Contains tables table → IfSome (pending table.name key) (FitsChange table.key_marks))
+pub pending_fits : (tables : List TableDef) (name : List ℕ) (width : ℕ) (pending : Changed) → ((table : TableDef) (key : List ℕ) → Contains tables table → IfSome (pending table.name key) (FitsChange table.key_marks))
     → (table : TableDef) (key : List ℕ) → Contains (widened_tables name width tables) table → IfSome (widened_pending name width pending table.name key) (FitsChange table.key_marks)
 pending_fits tables name width pending fits table key inside =
     let was = was_there name width tables table inside in

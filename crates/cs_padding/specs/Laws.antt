@@ -1,5 +1,6 @@
 -- The laws of stores whose tables get more columns.
 use Rattle.std.specs.Prelude.{◌≡◌, ℕ, List}
+use Rattle.std.specs.FinMap.{len}
 use Rattle.cs_value.specs.Catalog.{AreTables}
 use Rattle.cs_value.specs.declared.catalog.TableDef.{TableDef}
 use Rattle.cs_normal.specs.State.{State}
@@ -8,7 +9,7 @@ use Rattle.cs_store.specs.States.{AreEdits}
 use Rattle.cs_store.specs.Written.{after_batch}
 use Rattle.cs_store.specs.declared.batch.Batch.{Batch}
 use Rattle.cs_store.specs.edits.Edits.{BodyEdit}
-use Rattle.cs_pending.specs.Shows.{IsSoundOf, ShowsRows}
+use Rattle.cs_pending.specs.Shows.{IsSoundOf, SameRest, ShowsRows}
 use Rattle.cs_pending.specs.View.{Changed, View, before}
 use Rattle.cs_widening.specs.Widening.{CanWiden, widened, widened_tables}
 use Rattle.cs_padding.specs.Pending.{ArePendingEdits, widened_pending, widened_view}
@@ -52,3 +53,13 @@ ShowsWidens =
     → AreEdits (widened_tables name width tables) contents batch.rows (widened name width view.tables)
     → ArePendingEdits (widened_tables name width tables) contents batch.pending (widened_pending name width view.pending)
     → ShowsRows (widened_tables name width tables) (after_batch batch contents) (widened_view name width view)
+
+-- there is a store that shows with the new columns what a store shows. Elsewhere it holds the same, and as many changes are pending
+abbrev pub WideStoreCanBe : Type 0
+WideStoreCanBe =
+    (tables : List TableDef) (name : List ℕ) (width : ℕ) (contents : Contents) (view : View)
+    → AreTables tables
+    → CanWiden tables name width
+    → ShowsRows tables contents view
+    → (wide : Contents) × SameRest tables contents wide × (len wide.pending ≡ len contents.pending)
+    × ((seen : View) → ShowsRows tables contents seen → ShowsRows (widened_tables name width tables) wide (widened_view name width seen))

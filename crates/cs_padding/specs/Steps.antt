@@ -1,5 +1,5 @@
 -- What the code has put on its way: no definition that a public clause cites.
-use Rattle.std.specs.Prelude.{◌≡◌, ℕ, Bool, List, ◌∷◌, Some, ◌++◌, map}
+use Rattle.std.specs.Prelude.{◌≡◌, ◌≢◌, ℕ, Bool, List, [], ◌∷◌, Some, None, ◌++◌, map, is_some}
 use Rattle.std.specs.List.{AllByRecursion}
 use Rattle.cs_change.specs.Spelling.{FitsChange, change_spelling, delete_byte, flag_byte, insert_byte, update_byte}
 use Rattle.cs_change.specs.declared.change.Change.{Change}
@@ -42,3 +42,27 @@ ArePadded marks nulls undefined number listed edits =
 -- a body is a change of a table with these key columns
 abbrev pub IsChangeBody : List Bool → StoredBody → Type 0
 IsChangeBody marks stored = (change : Change) × FitsChange marks change × (stored.body.items ≡ change_spelling change)
+
+-- an edit of a pending change, once the table with this number, of these key columns, has more columns: these bytes stand behind
+-- the records of the change. An edit of another table is the same, and one that clears a place
+pub record IsPaddedEdit (marks : List Bool) (nulls undefined : List ℕ) (number : ℕ) (edit wide : BodyEdit) : Type 0 where
+  pub table : wide.table ≡ edit.table
+  pub key : wide.key ≡ edit.key
+  pub other : edit.table ≢ number → wide.body ≡ edit.body
+  pub clears : edit.body ≡ None → wide.body ≡ None
+  pub sets : is_some wide.body ≡ is_some edit.body
+  pub padded : (change : Change) → edit.table ≡ number → FitsChange marks change → edit.body ≡ Some (change_spelling change)
+      → wide.body ≡ Some (padded_change nulls undefined change)
+
+-- one for each
+abbrev pub ArePaddedEdits : List Bool → List ℕ → List ℕ → ℕ → List BodyEdit → List BodyEdit → Type 0
+ArePaddedEdits marks nulls undefined number [] [] = Unit {0}
+ArePaddedEdits marks nulls undefined number (edit ∷ edits) (wide ∷ wides) =
+    IsPaddedEdit marks nulls undefined number edit wide × ArePaddedEdits marks nulls undefined number edits wides
+ArePaddedEdits marks nulls undefined number [] (wide ∷ wides) = ⊥
+ArePaddedEdits marks nulls undefined number (edit ∷ edits) [] = ⊥
+
+-- they stand behind others
+abbrev pub ArePaddedBehind : List Bool → List ℕ → List ℕ → ℕ → List BodyEdit → List BodyEdit → List BodyEdit → Type 0
+ArePaddedBehind marks nulls undefined number edits old new =
+    (wides : List BodyEdit) × (new ≡ old ++ wides) × ArePaddedEdits marks nulls undefined number edits wides

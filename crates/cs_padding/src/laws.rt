@@ -1,6 +1,6 @@
 //! The laws of stores whose tables get more columns, each the contract of a function that does nothing.
 
-ghost use Rattle.cs_padding.specs.Laws.{OnePendingEdits, OneRowEdits, ShowsWidens, SoundWidens};
+ghost use Rattle.cs_padding.specs.Laws.{OnePendingEdits, OneRowEdits, ShowsWidens, SoundWidens, WideStoreCanBe};
 
 /// One list of edits makes a state of the tables, and one makes what is pending.
 pub fn one_edits()
@@ -27,5 +27,14 @@ pub fn shows_widens()
     sound_widens();
     cs_store::laws::commits();
     cs_store::laws::states();
+    cs_widening::laws::widened_is_state();
+}
+
+/// There is a store that shows with the new columns what a store shows.
+pub fn wide_store_can_be()
+    ensures { WideStoreCanBe }
+{
+    sound_widens();
+    cs_pending::laws::one_view();
     cs_widening::laws::widened_is_state();
 }

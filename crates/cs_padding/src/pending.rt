@@ -28,13 +28,13 @@ const UNDEFINED: u8 = 0;
 
 /// The bytes of new columns: those of a row, and those of an UPDATE's record.
 #[derive(Drop)]
-struct NewColumns {
-    nulls: Vec<u8>,
-    undefined: Vec<u8>,
+pub(crate) struct NewColumns {
+    pub nulls: Vec<u8>,
+    pub undefined: Vec<u8>,
 }
 
 /// The bytes of so many columns.
-fn new_columns(alloc: Global, count: usize) -> Result<NewColumns, Memory>
+pub(crate) fn new_columns(alloc: Global, count: usize) -> Result<NewColumns, Memory>
     ensures { IfOk result (λ made. (made.nulls.items ≡ replicate count null_type) × (made.undefined.items ≡ replicate count undefined_type)) }
 {
     let nulls = repeated(alloc, NULL, count)?;
@@ -43,7 +43,11 @@ fn new_columns(alloc: Global, count: usize) -> Result<NewColumns, Memory>
 }
 
 /// Appends a change with new columns.
-fn put_change(change: &Change<'_>, columns: &NewColumns, out: &mut Vec<u8>) -> Result<(), Memory>
+pub(crate) fn put_change(
+    change: &Change<'_>,
+    columns: &NewColumns,
+    out: &mut Vec<u8>,
+) -> Result<(), Memory>
     ensures { OnOk result (out.new.items ≡ out.old.items ++ padded_change columns.now.nulls.items columns.now.undefined.items change.now) }
 {
     match change {
