@@ -1,6 +1,6 @@
 //! Messages beside bytes that were written by hand.
 
-use cs_value::Memory;
+use cs_value::{Memory, Text};
 use cs_wire::*;
 use std::alloc::Global;
 
@@ -23,6 +23,11 @@ const PULL: [u8; 13] = [2, 0, 0, 0, 0, 0, 0, 0, 0, 0, 0, 0, 0x0a];
 /// A Catch: of replica 9, from entry 0, at most 10.
 const CATCH: [u8; 17] = [3, 0, 0, 0, 9, 0, 0, 0, 0, 0, 0, 0, 0, 0, 0, 0, 0x0a];
 
+/// A Widen: 1, base 1, three columns, `t1`.
+const WIDEN: [u8; 27] = [
+    4, 0, 0, 0, 0, 0, 0, 0, 1, 0, 0, 0, 0, 0, 0, 0, 1, 0, 0, 0, 3, 0, 0, 0, 2, 0x74, 0x31,
+];
+
 /// Accepted: 7, 1, version 1.
 const ACCEPTED: [u8; 21] = [
     0x11, 0, 0, 0, 7, 0, 0, 0, 0, 0, 0, 0, 1, 0, 0, 0, 0, 0, 0, 0, 1,
@@ -38,6 +43,12 @@ const REFUSED: [u8; 2] = [0x13, 0x29];
 const ENTRIES: [u8; 52] = [
     0x14, 0, 0, 0, 0, 0, 0, 0, 0, 0, 0, 0, 1, 0, 0, 0, 0, 7, 0, 0, 0, 0, 0, 0, 0, 1, 0, 0, 0, 0x16,
     0x54, 2, 1, 0, 0x74, 0x31, 0, 0x12, 0, 1, 0, 0, 0, 0, 0, 0, 0, 1, 3, 2, 0x76, 0x31,
+];
+
+/// Entries: from 1, one, which is the Widen above.
+const WIDENED: [u8; 36] = [
+    0x14, 0, 0, 0, 0, 0, 0, 0, 1, 0, 0, 0, 1, 1, 0xff, 0xff, 0xff, 0xff, 0, 0, 0, 0, 0, 0, 0, 1, 0,
+    0, 0, 6, 0, 0, 0, 3, 0x74, 0x31,
 ];
 
 /// Merged: for replica 9, from 0 to 2, the changeset of the push above.
@@ -76,11 +87,27 @@ fn is_the_catch(bytes: &[u8]) -> bool {
     }
 }
 
+/// Whether the bytes are read as the widening above.
+fn is_the_widen(bytes: &[u8]) -> bool {
+    match Request::decode(bytes) {
+        Ok(
+            Request::Widen {
+                number,
+                base,
+                width,
+                table,
+            },
+        ) => number == 1 && base == 1 && width == 3 && table == "t1",
+        _ => false,
+    }
+}
+
 #[test]
 fn requests_are_read(rt: HostRuntime) {
     assert!(rt; is_the_push(&PUSH));
     assert!(rt; is_the_pull(&PULL));
     assert!(rt; is_the_catch(&CATCH));
+    assert!(rt; is_the_widen(&WIDEN));
 }
 
 /// Whether these are the bytes.
@@ -136,12 +163,26 @@ fn written_owned_push(alloc: Global) -> Result<Vec<u8>, Memory> {
     Ok(out)
 }
 
+/// The widening above, written out of a request that owns its name.
+fn written_widen(alloc: Global) -> Result<Vec<u8>, Memory> {
+    let mut out = Vec::new(alloc);
+    let widen = RequestBuf::Widen {
+        number: 1,
+        base: 1,
+        width: 3,
+        table: Text::from_string(String::from_str(alloc, "t1")?),
+    };
+    widen.encode(&mut out)?;
+    Ok(out)
+}
+
 #[test]
 fn requests_are_written(rt: HostRuntime) {
     assert!(rt; are(written_push(rt.alloc()), &PUSH));
     assert!(rt; are(written_owned_push(rt.alloc()), &PUSH));
     assert!(rt; are(written_pull(rt.alloc()), &PULL));
     assert!(rt; are(written_catch(rt.alloc()), &CATCH));
+    assert!(rt; are(written_widen(rt.alloc()), &WIDEN));
 }
 
 /// Whether the bytes are no request, for this fault.
@@ -172,6 +213,20 @@ fn faults_of_requests(rt: HostRuntime) {
     assert!(rt; is_no_request(&longer_catch, WireFault::TooLong));
     assert!(rt; is_no_request(&longer_push, WireFault::TooLong));
     assert!(rt; is_no_request(&ACCEPTED, WireFault::BadTag));
+    let mut longer_widen = WIDEN;
+    longer_widen[24] = 1;
+    let mut endless_widen = WIDEN;
+    endless_widen[21] = 0xff;
+    let mut no_text = WIDEN;
+    no_text[26] = 0xff;
+    // A name that is no text is told where neither bytes lack nor stand behind.
+    let mut longer = no_text;
+    longer[24] = 1;
+    assert!(rt; is_no_request(&longer_widen, WireFault::TooLong));
+    assert!(rt; is_no_request(&endless_widen, WireFault::Truncated));
+    assert!(rt; is_no_request(&no_text, WireFault::NotUtf8));
+    assert!(rt; is_no_request(&longer, WireFault::TooLong));
+    assert!(rt; is_no_request(&no_text[..26], WireFault::Truncated));
 }
 
 /// Whether each front of the bytes is a Truncated request.
@@ -197,10 +252,12 @@ fn fronts(rt: HostRuntime) {
     assert!(rt; are_truncated_requests(&PUSH));
     assert!(rt; are_truncated_requests(&PULL));
     assert!(rt; are_truncated_requests(&CATCH));
+    assert!(rt; are_truncated_requests(&WIDEN));
     assert!(rt; are_truncated_answers(&ACCEPTED));
     assert!(rt; are_truncated_answers(&STALE));
     assert!(rt; are_truncated_answers(&REFUSED));
     assert!(rt; are_truncated_answers(&ENTRIES));
+    assert!(rt; are_truncated_answers(&WIDENED));
     assert!(rt; are_truncated_answers(&MERGED));
 }
 
@@ -270,9 +327,23 @@ fn tells_the_push(bytes: &[u8]) -> bool {
     }
 }
 
+/// Whether the bytes tell one entry from 1 on, the widening above.
+fn tells_the_widen(bytes: &[u8]) -> bool {
+    let Ok(Answer::Entries { first, entries }) = Answer::decode(bytes) else {
+        return false;
+    };
+    let Some((entry, others)) = entries.split_first() else {
+        return false;
+    };
+    let body: [u8; 6] = [0, 0, 0, 3, 0x74, 0x31];
+    let is_of_hub = entry.kind() == 1 && entry.origin() == 4_294_967_295 && entry.number() == 1;
+    first == 1 && is_of_hub && entry.body() == body.as_slice() && others.split_first().is_none()
+}
+
 #[test]
 fn entries_are_read(rt: HostRuntime) {
     assert!(rt; tells_the_push(&ENTRIES));
+    assert!(rt; tells_the_widen(&WIDENED));
 }
 
 /// Whether the bytes tell replica 9 what two entries from 0 on do together, the changeset of the push above.
@@ -300,7 +371,7 @@ fn faults_of_answers(rt: HostRuntime) {
     let mut longer_merged = MERGED;
     longer_merged[24] = 0x15;
     let mut other_kind = ENTRIES;
-    other_kind[13] = 1;
+    other_kind[13] = 2;
     let mut one_more = ENTRIES;
     one_more[12] = 2;
     let mut none = ENTRIES;
@@ -331,9 +402,17 @@ fn told_together(alloc: Global) -> Result<Vec<u8>, Memory> {
     Ok(answer)
 }
 
+/// The answer that tells the widening above as the second entry of a log.
+fn told_widen(alloc: Global) -> Result<Vec<u8>, Memory> {
+    let mut answer = entries_head(alloc, 1, 1)?;
+    put_entry(1, 4_294_967_295, 1, &[0, 0, 0, 3, 0x74, 0x31], &mut answer)?;
+    Ok(answer)
+}
+
 #[test]
 fn entries_are_written(rt: HostRuntime) {
     assert!(rt; are(told_of_log(rt.alloc()), &ENTRIES));
+    assert!(rt; are(told_widen(rt.alloc()), &WIDENED));
     assert!(rt; are(told_together(rt.alloc()), &MERGED));
 }
 
@@ -345,11 +424,12 @@ fn is_told(alloc: Global, fault: WireFault, text: &str, code: u8) -> Result<bool
 
 #[test]
 fn names_and_codes(rt: HostRuntime) {
-    let faults: [(WireFault, &str, u8); 4] = [
+    let faults: [(WireFault, &str, u8); 5] = [
         (WireFault::Truncated, "Truncated", 2),
         (WireFault::BadTag, "BadTag", 20),
         (WireFault::TooLong, "TooLong", 21),
         (WireFault::BadKind, "BadKind", 23),
+        (WireFault::NotUtf8, "NotUtf8", 6),
     ];
     for (fault, text, code) in faults {
         assert!(rt; is_told(rt.alloc(), fault, text, code) == Ok(true));

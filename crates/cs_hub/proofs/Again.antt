@@ -14,7 +14,7 @@ use Rattle.cs_hub.specs.declared.judgement.fault.HubFault.{HubFault}
 use Rattle.cs_hub.specs.declared.judgement.push.Pushed.{Pushed}
 use Rattle.cs_hub.specs.declared.judgement.push.Pushed.TheVariants as pushed
 use Rattle.cs_wire.specs.Answers.{answer_spelling}
-use Rattle.cs_wire.specs.Requests.{Asked, AsksCatch, AsksPush, AsksPull}
+use Rattle.cs_wire.specs.Requests.{Asked, AsksCatch, AsksPush, AsksPull, AsksWiden}
 use Rattle.cs_wire.specs.declared.answer.Answer.TheVariants.{Short}
 use Rattle.cs_wire.specs.declared.fault.WireFault.{WireFault}
 use Rattle.cs_wire.specs.declared.push_head.PushHead.{PushHead}
@@ -97,6 +97,7 @@ asked_again longer limit old new (Ok (AsksPull first count)) answer (a, s) =
     subst (λ (h : HubState). AnswersAsked limit h (Ok (AsksPull first count)) answer new) (sym s) (a, s)
 asked_again longer limit old new (Ok (AsksCatch asker first count)) answer (a, s) =
     subst (λ (h : HubState). AnswersAsked limit h (Ok (AsksCatch asker first count)) answer new) (sym s) (a, s)
+asked_again longer limit old new (Ok (AsksWiden number base width table)) answer (a, s) = (a, refl)
 asked_again longer limit old new (Ok (AsksPush head changeset)) answer (outcome, p, a) = (outcome, bytes_again longer limit old new head changeset outcome p, a)
 
 pub served_again : LongerLog → ServedAgain
@@ -170,6 +171,7 @@ module _ (limit : ℕ) (opening : List TableDef) (log more : List LogEntry) (ent
   stale_asked longer (Err fault) answer (a, s) = absurd (another_log opening log entry s)
   stale_asked longer (Ok (AsksPull first count)) answer (a, s) = absurd (another_log opening log entry s)
   stale_asked longer (Ok (AsksCatch asker first count)) answer (a, s) = absurd (another_log opening log entry s)
+  stale_asked longer (Ok (AsksWiden number base width table)) answer (a, s) = absurd (another_log opening log entry s)
   stale_asked longer (Ok (AsksPush head changeset)) answer (outcome, p, a) = (Ok (pushed.Stale (length (log ++ held ∷ more))), stale_bytes longer head changeset outcome p, refl)
 
 pub stale_behind_another : LongerLog → StaleBehindAnother

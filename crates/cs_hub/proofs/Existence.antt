@@ -20,12 +20,13 @@ use Rattle.cs_hub.specs.judgement.Hub.{HubState, entries_from, judging}
 use Rattle.cs_hub.specs.judgement.Laws.{IsOfHub, PushHasAnswer}
 use Rattle.cs_hub.specs.declared.judgement.fault.HubFault.TheVariants.{Ahead}
 use Rattle.cs_wire.specs.Laws.{AsksSomething}
-use Rattle.cs_wire.specs.Requests.{Asked, AsksCatch, AsksPush, AsksPull, ReadsRequest, push_numbers, push_tag}
+use Rattle.cs_wire.specs.Requests.{Asked, AsksCatch, AsksPush, AsksPull, AsksWiden, ReadsRequest, push_numbers, push_tag}
 use Rattle.cs_wire.specs.Answers.{answer_spelling}
 use Rattle.cs_wire.specs.Numbers.{eight_bytes, four_bytes}
 use Rattle.cs_wire.specs.Told.{told_entry}
 use Rattle.cs_wire.specs.declared.answer.Answer.TheVariants.{Entries}
 use Rattle.cs_wire.specs.declared.fault.WireFault.{WireFault}
+use Rattle.cs_wire.specs.declared.fault.WireFault.TheVariants.{BadTag}
 use Rattle.cs_wire.specs.declared.push_head.PushHead.{PushHead}
 use Rattle.cs_hub.specs.Laws.{RequestHasAnswer}
 use Rattle.cs_hub.specs.Serves.{AnswersAsked, Outcome, TakesBytes, TakesGroups, caught_answer, or_refusal, push_answer, refused}
@@ -88,6 +89,7 @@ of_asked laws limit old request (Ok (AsksPull first count)) hub small asks =
       | inl above ↦ (refused (ByHub Ahead), old, (inl (above, refl), refl))
       | inr within ↦ (answer_spelling (Entries first (map told_entry (entries_from first count old.log))), old, (inr (within, refl), refl))
     ]
+of_asked laws limit old request (Ok (AsksWiden number base width table)) hub small asks = (refused (NoRequest BadTag), old, (refl, refl))
 of_asked laws limit old request (Ok (AsksCatch asker first count)) hub small asks =
     elim (cases_lt (length old.log) first) [
       | inl above ↦ (refused (ByHub Ahead), old, (inl (above, refl), refl))

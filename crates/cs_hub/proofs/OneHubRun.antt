@@ -14,7 +14,7 @@ use Rattle.cs_hub.specs.judgement.Pushes.{CanFollow, Push, Pushes, entry_of_push
 use Rattle.cs_hub.specs.declared.judgement.fault.HubFault.{HubFault}
 use Rattle.cs_hub.specs.declared.judgement.push.Pushed.{Pushed}
 use Rattle.cs_hub.specs.Laws.{OneHubRun, OneService}
-use Rattle.cs_wire.specs.Requests.{Asked, AsksCatch, AsksPush, AsksPull}
+use Rattle.cs_wire.specs.Requests.{Asked, AsksCatch, AsksPush, AsksPull, AsksWiden}
 use Rattle.cs_wire.specs.declared.fault.WireFault.{WireFault}
 use Rattle.cs_hub.specs.Serves.{AnswersAsked, IsSame, Outcome, Serves, TakesBytes, TakesGroups}
 use Rattle.cs_wire.specs.declared.push_head.PushHead.{PushHead}
@@ -50,6 +50,7 @@ asked_keeps : AppendedIsLog → (limit : ℕ) (old new : HubState) (asked : Resu
 asked_keeps law limit old new (Err fault) answer (a, s) = same_hub old new s
 asked_keeps law limit old new (Ok (AsksPull first count)) answer (a, s) = same_hub old new s
 asked_keeps law limit old new (Ok (AsksCatch asker first count)) answer (a, s) = same_hub old new s
+asked_keeps law limit old new (Ok (AsksWiden number base width table)) answer (a, s) = same_hub old new s
 asked_keeps law limit old new (Ok (AsksPush head changeset)) answer (some, p, a) = changeset_keeps law limit old new head changeset some p
 
 decoded_keeps : AppendedIsLog → (limit : ℕ) (old new : HubState) (decoded : Result (List ℕ) _) (answer : List ℕ) → AnswersDecoded (Serves limit) old decoded answer new → IsOfHub old → IsOfHub new

@@ -16,7 +16,7 @@ use Rattle.cs_hub.specs.judgement.Laws.{OneAnswer}
 use Rattle.cs_hub.specs.judgement.Pushes.{Push}
 use Rattle.cs_wire.specs.Laws.{OneRequest}
 use Rattle.cs_hub.specs.Laws.{OneService}
-use Rattle.cs_wire.specs.Requests.{Asked, AsksCatch, AsksPush, AsksPull}
+use Rattle.cs_wire.specs.Requests.{Asked, AsksCatch, AsksPush, AsksPull, AsksWiden}
 use Rattle.cs_wire.specs.Answers.{answer_spelling}
 use Rattle.cs_wire.specs.declared.fault.WireFault.{WireFault}
 use Rattle.cs_hub.specs.Serves.{AnswersAsked, Outcome, TakesBytes, TakesGroups, TakesNormal, TellsCaught, caught_answer, or_refusal, push_answer}
@@ -93,6 +93,7 @@ asked_agree laws limit old new last (Ok (AsksCatch asker first count)) answer ot
 asked_agree laws limit old new last (Ok (AsksCatch asker first count)) answer other are (inr (le, told), n) (inl (lt, b), m) = absurd (omega arith)
 asked_agree laws limit old new last (Ok (AsksCatch asker first count)) answer other are (inr (le, told), n) (inr (le', also), m) =
     (caught_agree laws old asker first count answer other are told also, n ∙ sym m)
+asked_agree laws limit old new last (Ok (AsksWiden number base width table)) answer other are (a, n) (b, m) = (a ∙ sym b, n ∙ sym m)
 asked_agree laws limit old new last (Ok (AsksPush head changeset)) answer other are (some, p, a) (others, q, b) =
     let both = changesets_agree laws limit old new last head changeset some others are p q in
     (a ∙ ap (λ (o : Outcome). answer_spelling (push_answer head o)) both.0 ∙ sym b, both.1)

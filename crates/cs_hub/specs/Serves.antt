@@ -24,11 +24,12 @@ use Rattle.cs_hub.specs.Refusals.{refusal_of_hub, refusal_code}
 use Rattle.cs_hub.specs.declared.refusal.Refusal.{Refusal}
 use Rattle.cs_hub.specs.declared.refusal.Refusal.TheVariants.{NoRequest, NoChangeset, NoForm, ByHub}
 use Rattle.cs_wire.specs.Answers.{answer_spelling}
-use Rattle.cs_wire.specs.Requests.{Asked, AsksCatch, AsksPush, AsksPull, ReadsRequest}
+use Rattle.cs_wire.specs.Requests.{Asked, AsksCatch, AsksPush, AsksPull, AsksWiden, ReadsRequest}
 use Rattle.cs_wire.specs.Told.{told_entry}
 use Rattle.cs_wire.specs.declared.answer.Answer.{Answer}
 use Rattle.cs_wire.specs.declared.answer.Answer.TheVariants.{Short, Entries, Merged}
 use Rattle.cs_wire.specs.declared.fault.WireFault.{WireFault}
+use Rattle.cs_wire.specs.declared.fault.WireFault.TheVariants.{BadTag}
 use Rattle.cs_wire.specs.declared.push_head.PushHead.{PushHead}
 use Rattle.cs_wire.specs.declared.short_answer.ShortAnswer.TheVariants.{Accepted, Stale, Refused}
 
@@ -83,7 +84,7 @@ TellsCaught old asker first count bytes =
     (told : Caught) × Catches (catalog_at old.opening old.log first) asker count (drop first old.log) told
     × (bytes ≡ answer_spelling (caught_answer asker first old.log told))
 
--- the answer to what is asked, or to bytes that ask nothing
+-- the answer to what is asked, or to bytes that ask nothing. No hub takes a wider table yet: it knows no such request
 abbrev pub AnswersAsked : ℕ → HubState → Result Asked WireFault → List ℕ → HubState → Type 0
 AnswersAsked limit old (Err fault) bytes new = (bytes ≡ refused (NoRequest fault)) × (new ≡ old)
 AnswersAsked limit old (Ok (AsksPull first count)) bytes new =
@@ -94,6 +95,7 @@ AnswersAsked limit old (Ok (AsksCatch asker first count)) bytes new =
     (((length old.log < first) × (bytes ≡ refused (ByHub Ahead)))
     ⊎ ((first ≤ length old.log) × TellsCaught old asker first count bytes))
     × (new ≡ old)
+AnswersAsked limit old (Ok (AsksWiden number base width table)) bytes new = (bytes ≡ refused (NoRequest BadTag)) × (new ≡ old)
 AnswersAsked limit old (Ok (AsksPush head changeset)) bytes new =
     (outcome : Outcome) × TakesBytes limit old head changeset outcome new
     × (bytes ≡ answer_spelling (push_answer head outcome))

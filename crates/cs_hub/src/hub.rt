@@ -43,7 +43,7 @@ use cs_store::log::laws::catalog_stays;
 use cs_store::log::{LogEntry, MAX_ENTRIES};
 use cs_store::{Batch, RowStore, StoreFault};
 use cs_value::{Catalog, Memory, TableDef};
-use cs_wire::{PushHead, Request};
+use cs_wire::{PushHead, Request, WireFault};
 use std::alloc::{AllocError, Global};
 use std::marker::Model;
 
@@ -302,6 +302,10 @@ impl<S: RowStore> Hub<S> {
                 origin,
                 first,
                 limit,
+            )?)),
+            Ok(Request::Widen { .. }) => Ok(Judged::Reply(refuse(
+                self.alloc,
+                &Refusal::NoRequest(WireFault::BadTag),
             )?)),
             Ok(Request::Push { head, changeset }) => judge_told(
                 self.alloc,

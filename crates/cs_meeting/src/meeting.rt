@@ -3,7 +3,7 @@
 ghost use Rattle.std.specs.Prelude.{◌≡◌, ℕ, List, Ok, Err, IfOk, replicate};
 ghost use Rattle.cs_meeting.specs.Asks.{next_ask, own_count};
 ghost use Rattle.cs_meeting.specs.Steps.{Asks, Delivers, MakesTurn};
-ghost use Rattle.cs_wire.specs.Requests.{HasShortChangeset, asked_by_owned};
+ghost use Rattle.cs_wire.specs.Requests.{HasShortBytes, asked_by_owned};
 
 use crate::ask::{AT_ONCE, Ask};
 use cs_conflict::Wish;
@@ -65,7 +65,7 @@ impl<S: RowStore> Meeting<S> {
 
     /// Makes a request of it.
     fn ask(&mut self, ask: Ask) -> Result<RequestBuf, PushFault>
-        ensures short { IfOk result (λ request. HasShortChangeset (asked_by_owned request)) }
+        ensures short { IfOk result (λ request. HasShortBytes (asked_by_owned request)) }
         ensures asks { Asks S.RowStore ask result self.old self.new }
         ensures catalog { self.new.replica.catalog ≡ self.old.replica.catalog }
     {
@@ -90,7 +90,7 @@ impl<S: RowStore> Meeting<S> {
         wishes: &[Wish],
     ) -> Result<Reply, Memory>
         requires catalog { self.old.replica.catalog ≡ catalog.now }
-        requires short { HasShortChangeset (asked_by_owned request.now) }
+        requires short { HasShortBytes (asked_by_owned request.now) }
         ensures delivers { Delivers S.RowStore (asked_by_owned request.now) wishes.now result self.old self.new }
         ensures catalog { self.new.replica.catalog ≡ self.old.replica.catalog }
     {

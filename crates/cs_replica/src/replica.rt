@@ -16,7 +16,7 @@ ghost use Rattle.cs_pending.specs.position.Laws.{FitsPosition};
 ghost use Rattle.cs_pending.specs.position.Shows.{ShowsSomeAt};
 ghost use Rattle.cs_exchange.specs.pushing.Pushes.{IsPushFault, IsPushMadeIn, IsPushOf};
 ghost use Rattle.cs_exchange.specs.declared.pushing.fault.PushFault.TheVariants as push;
-ghost use Rattle.cs_wire.specs.Requests.{HasShortChangeset, asked_by_owned};
+ghost use Rattle.cs_wire.specs.Requests.{HasShortBytes, asked_by_owned};
 ghost use Rattle.cs_exchange.specs.taking.Takes.{IsTakenTo, brought, taken};
 ghost use Rattle.cs_exchange.specs.pulling.Calls.{WritesInTurn};
 ghost use Rattle.cs_exchange.specs.pulling.Merged.{IsMergeFault};
@@ -375,7 +375,7 @@ impl<S: RowStore> Replica<S> {
 
         // The request is of the push that is under way, and can be written.
         ensures moved { IfOk result (IsPushOf self.old.position self.new.position) }
-        ensures short { IfOk result (λ request. HasShortChangeset (asked_by_owned request)) }
+        ensures short { IfOk result (λ request. HasShortBytes (asked_by_owned request)) }
 
         // What is told holds.
         ensures refused { S.honest self.new.store → (view : View) → Shows S.contents self.old view
@@ -399,7 +399,7 @@ impl<S: RowStore> Replica<S> {
     /// Gives the request of the push that is under way once more: the same bytes. `Nothing` where none is.
     pub fn resend(&self, alloc: Global) -> Result<RequestBuf, PushFault>
         ensures resent { IsResent result self.now.position }
-        ensures short { IfOk result (λ request. HasShortChangeset (asked_by_owned request)) }
+        ensures short { IfOk result (λ request. HasShortBytes (asked_by_owned request)) }
     {
         match resend(alloc, &self.position) {
             Ok(request) => Ok(request),

@@ -2,7 +2,7 @@
 //! twice.
 
 ghost use Rattle.std.specs.Prelude.{◌<◌, ◌-◌, ◌^◌};
-ghost use Rattle.cs_wire.specs.Requests.{HasShortChangeset, asked_by_owned};
+ghost use Rattle.cs_wire.specs.Requests.{HasShortBytes, asked_by_owned};
 
 use crate::books::Here;
 use cs_conflict::{Clash, Guard, Wish};
@@ -58,7 +58,7 @@ fn answers<S: RowStore>(alloc: Global, replica: &mut Replica<S>, bytes: &[u8]) -
 
 /// The bytes of a request.
 fn bytes_of(alloc: Global, request: &RequestBuf) -> Result<Vec<u8>, Memory>
-    requires { HasShortChangeset (asked_by_owned request.now) }
+    requires { HasShortBytes (asked_by_owned request.now) }
 {
     let mut bytes = Vec::new(alloc);
     request.encode(&mut bytes)?;

@@ -110,3 +110,45 @@ sized_length origin second third size part =
       after_eight (eight_bytes third ++ (four_bytes size ++ part)) (four_bytes size ++ part) third refl,
       after_four (four_bytes size ++ part) part size refl,
     )
+
+-- bytes that begin with the numbers before a table's name, in a Widen
+pub record BeginsNamed (bytes : List ℕ) : Type 0 where
+  pub number : ℕ
+  pub base : ℕ
+  pub width : ℕ
+  pub size : ℕ
+  pub rest : List ℕ
+  pub number_fits : number < 2 ^ 64
+  pub base_fits : base < 2 ^ 64
+  pub width_fits : width < 2 ^ 32
+  pub size_fits : size < 2 ^ 32
+  pub is : bytes ≡ eight_bytes number ++ (eight_bytes base ++ (four_bytes width ++ (four_bytes size ++ rest)))
+
+pub begins_named : (bytes : List ℕ) → AreBytes bytes → 24 ≤ length bytes → BeginsNamed bytes
+begins_named bytes small long =
+    let number = begins_eight bytes small (omega (arith, long)) in
+    let base = begins_eight number.rest number.small (omega (arith, after_eight bytes number.rest number.number number.is)) in
+    let width = begins_four base.rest base.small (omega (arith, after_eight bytes number.rest number.number number.is, after_eight number.rest base.rest base.number base.is)) in
+    let size = begins_four width.rest width.small (omega (arith, after_eight bytes number.rest number.number number.is, after_eight number.rest base.rest base.number base.is, after_four base.rest width.rest width.number width.is)) in
+    record {
+      number = number.number;
+      base = base.number;
+      width = width.number;
+      size = size.number;
+      rest = size.rest;
+      number_fits = number.fits;
+      base_fits = base.fits;
+      width_fits = width.fits;
+      size_fits = size.fits;
+      is = number.is ∙ ap (λ (r : List ℕ). eight_bytes number.number ++ r) (base.is ∙ ap (λ (r : List ℕ). eight_bytes base.number ++ r) (width.is ∙ ap (λ (r : List ℕ). four_bytes width.number ++ r) size.is));
+    }
+
+pub named_length : (number base width size : ℕ) (part : List ℕ) → length (eight_bytes number ++ (eight_bytes base ++ (four_bytes width ++ (four_bytes size ++ part)))) ≡ 24 + length part
+named_length number base width size part =
+    omega (
+      arith,
+      after_eight (eight_bytes number ++ (eight_bytes base ++ (four_bytes width ++ (four_bytes size ++ part)))) (eight_bytes base ++ (four_bytes width ++ (four_bytes size ++ part))) number refl,
+      after_eight (eight_bytes base ++ (four_bytes width ++ (four_bytes size ++ part))) (four_bytes width ++ (four_bytes size ++ part)) base refl,
+      after_four (four_bytes width ++ (four_bytes size ++ part)) (four_bytes size ++ part) width refl,
+      after_four (four_bytes size ++ part) part size refl,
+    )

@@ -6,11 +6,11 @@ use Rattle.cs_wire.specs.Answers.{FitsAnswer, FitsMerged, IsAnswerFault, ReadsAn
 use Rattle.cs_wire.specs.Entries.{ToldEntry, StandBefore, entry_spelling}
 use Rattle.cs_wire.specs.Laws.{AsksSomething, FrontOfAnswer, FrontOfRequest, OneRequest, OneToldAnswer, TellsSomething}
 use Rattle.cs_wire.specs.Numbers.{four_bytes, eight_bytes}
-use Rattle.cs_wire.specs.Requests.{Asked, AsksPush, AsksPull, AsksCatch, FitsPush, FitsPull, FitsCatch, FitsRequest, IsRequestFault, ReadsRequest, request_spelling, push_numbers, pull_numbers, catch_numbers}
+use Rattle.cs_wire.specs.Requests.{Asked, AsksPush, AsksPull, AsksCatch, AsksWiden, FitsPush, FitsPull, FitsCatch, FitsWiden, FitsRequest, IsRequestFault, ReadsRequest, request_spelling, push_numbers, pull_numbers, catch_numbers, widen_numbers}
 use Rattle.cs_wire.specs.declared.answer.Answer.{Answer}
 use Rattle.cs_wire.specs.declared.answer.Answer.TheVariants.{Short, Entries, Merged}
 use Rattle.cs_wire.specs.declared.fault.WireFault.{WireFault}
-use Rattle.cs_wire.specs.declared.fault.WireFault.TheVariants.{Truncated, BadTag, TooLong, BadKind}
+use Rattle.cs_wire.specs.declared.fault.WireFault.TheVariants.{Truncated, BadTag, TooLong, BadKind, NotUtf8}
 use Rattle.cs_wire.specs.declared.push_head.PushHead.{PushHead}
 use Rattle.cs_wire.specs.declared.short_answer.ShortAnswer.{ShortAnswer}
 use Rattle.cs_wire.specs.declared.short_answer.ShortAnswer.TheVariants.{Accepted, Stale, Refused}
@@ -36,6 +36,10 @@ catch_more : (origin first limit : ℕ) (part rest : List ℕ) → catch_numbers
 unfolding four_bytes eight_bytes
 catch_more origin first limit part rest = refl
 
+widen_more : (number base width size : ℕ) (part rest : List ℕ) → widen_numbers number base width size part ++ rest ≡ widen_numbers number base width size (part ++ rest)
+unfolding four_bytes eight_bytes
+widen_more number base width size part rest = refl
+
 longer_push : (head : PushHead) (size : ℕ) (part rest bytes whole : List ℕ) → FitsPush head size → bytes ≡ 1 ∷ push_numbers head size part → size < length (part ++ rest) → whole ≡ bytes ++ rest → IsRequestFault TooLong whole
 longer_push head size part rest bytes whole fits is many goes =
     inl (head, size, part ++ rest, fits, goes ∙ ap (λ (t : List ℕ). t ++ rest) is ∙ ap (λ (t : List ℕ). 1 ∷ t) (push_more head size part rest), many)
@@ -46,7 +50,11 @@ longer_pull first limit part rest bytes whole fits is many goes =
 
 longer_catch : (origin first limit : ℕ) (part rest bytes whole : List ℕ) → FitsCatch origin first limit → bytes ≡ 3 ∷ catch_numbers origin first limit part → 0 < length (part ++ rest) → whole ≡ bytes ++ rest → IsRequestFault TooLong whole
 longer_catch origin first limit part rest bytes whole fits is many goes =
-    inr (inr (origin, first, limit, part ++ rest, fits, goes ∙ ap (λ (t : List ℕ). t ++ rest) is ∙ ap (λ (t : List ℕ). 3 ∷ t) (catch_more origin first limit part rest), many))
+    inr (inr (inl (origin, first, limit, part ++ rest, fits, goes ∙ ap (λ (t : List ℕ). t ++ rest) is ∙ ap (λ (t : List ℕ). 3 ∷ t) (catch_more origin first limit part rest), many)))
+
+longer_widen : (number base width size : ℕ) (part rest bytes whole : List ℕ) → FitsWiden number base width size → bytes ≡ 4 ∷ widen_numbers number base width size part → size < length (part ++ rest) → whole ≡ bytes ++ rest → IsRequestFault TooLong whole
+longer_widen number base width size part rest bytes whole fits is many goes =
+    inr (inr (inr (number, base, width, size, part ++ rest, fits, goes ∙ ap (λ (t : List ℕ). t ++ rest) is ∙ ap (λ (t : List ℕ). 4 ∷ t) (widen_more number base width size part rest), many)))
 
 no_request : OneRequest → (asked : Asked) (whole : List ℕ) (fault : WireFault) → FitsRequest asked → request_spelling asked ≡ whole → IsRequestFault fault whole → ⊥
 no_request one asked whole fault fits is wrong =
@@ -59,6 +67,8 @@ request_front one asked bytes rest (Ok (AsksPull first limit)) fits more goes (o
     absurd (no_request one asked (bytes ++ rest) TooLong fits goes (longer_pull first limit [] rest bytes (bytes ++ rest) other is more refl))
 request_front one asked bytes rest (Ok (AsksCatch origin first limit)) fits more goes (other, is) =
     absurd (no_request one asked (bytes ++ rest) TooLong fits goes (longer_catch origin first limit [] rest bytes (bytes ++ rest) other is more refl))
+request_front one asked bytes rest (Ok (AsksWiden number base width table)) fits more goes ((other, text), is) =
+    absurd (no_request one asked (bytes ++ rest) TooLong fits goes (longer_widen number base width (length table) table rest bytes (bytes ++ rest) other is (omega (arith, length-append table rest)) refl))
 request_front one asked bytes rest (Err Truncated) fits more goes wrong = wrong
 request_front one asked bytes rest (Err BadTag) fits more goes (tag, behind, is, other) =
     absurd (no_request one asked (bytes ++ rest) BadTag fits goes (tag, behind ++ rest, ap (λ (t : List ℕ). t ++ rest) is, other))
@@ -66,9 +76,13 @@ request_front one asked bytes rest (Err TooLong) fits more goes (inl (head, size
     absurd (no_request one asked (bytes ++ rest) TooLong fits goes (longer_push head size part rest bytes (bytes ++ rest) other is (omega (arith, length-append part rest)) refl))
 request_front one asked bytes rest (Err TooLong) fits more goes (inr (inl (first, limit, part, other, is, many))) =
     absurd (no_request one asked (bytes ++ rest) TooLong fits goes (longer_pull first limit part rest bytes (bytes ++ rest) other is (omega (arith, length-append part rest)) refl))
-request_front one asked bytes rest (Err TooLong) fits more goes (inr (inr (origin, first, limit, part, other, is, many))) =
+request_front one asked bytes rest (Err TooLong) fits more goes (inr (inr (inl (origin, first, limit, part, other, is, many)))) =
     absurd (no_request one asked (bytes ++ rest) TooLong fits goes (longer_catch origin first limit part rest bytes (bytes ++ rest) other is (omega (arith, length-append part rest)) refl))
+request_front one asked bytes rest (Err TooLong) fits more goes (inr (inr (inr (number, base, width, size, part, other, is, many)))) =
+    absurd (no_request one asked (bytes ++ rest) TooLong fits goes (longer_widen number base width size part rest bytes (bytes ++ rest) other is (omega (arith, length-append part rest)) refl))
 request_front one asked bytes rest (Err BadKind) fits more goes none = absurd none
+request_front one asked bytes rest (Err NotUtf8) fits more goes (number, base, width, table, other, is, text) =
+    absurd (no_request one asked (bytes ++ rest) TooLong fits goes (longer_widen number base width (length table) table rest bytes (bytes ++ rest) other is (omega (arith, length-append table rest)) refl))
 
 pub front_of_request : OneRequest → AsksSomething → FrontOfRequest
 front_of_request one there asked bytes rest fits small not goes =
@@ -171,6 +185,7 @@ answer_front one answer bytes rest (Err BadKind) fits more goes (first, count, p
         wrong = (wrong.wrong.0, wrong.wrong.1 ++ rest, ap (λ (t : List ℕ). t ++ rest) wrong.wrong.2, wrong.wrong.3);
       },
     ))
+answer_front one answer bytes rest (Err NotUtf8) fits more goes none = absurd none
 
 pub front_of_answer : OneToldAnswer → TellsSomething → FrontOfAnswer
 front_of_answer one there answer bytes rest fits small not goes =

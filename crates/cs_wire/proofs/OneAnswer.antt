@@ -3,13 +3,13 @@ use Rattle.std.proofs.Common.{◌≡◌, ℕ, zero, suc, ◌+◌, ◌<◌, false
 use Rattle.std.specs.List.{flat_map, AllByRecursion}
 use Rattle.std.proofs.lemmas.Bool.Decides.{nat_tests}
 use Rattle.cs_wire.specs.Answers.{FitsShort, FitsEntriesNumbers, FitsMerged, ReadsAnswer, accepted_numbers, entries_numbers, merged_numbers, short_before}
-use Rattle.cs_wire.specs.Entries.{ToldEntry, FitsEntry, IsEntryFault, IsFaultOfEntries, entry_spelling}
+use Rattle.cs_wire.specs.Entries.{ToldEntry, FitsEntry, IsEntryFault, IsFaultOfEntries, entry_spelling, kinds}
 use Rattle.cs_wire.specs.Numbers.{four_bytes, eight_bytes}
 use Rattle.cs_wire.specs.OneSpelling.{four, eight, four_back, four_rest, eight_back, eight_rest, after_four, after_eight, below, not_below, entry_back, entry_behind, entry_reading, numbers_back, sized_entry}
 use Rattle.cs_wire.specs.declared.answer.Answer.{Answer}
 use Rattle.cs_wire.specs.declared.answer.Answer.TheVariants.{Short, Entries, Merged}
 use Rattle.cs_wire.specs.declared.fault.WireFault.{WireFault}
-use Rattle.cs_wire.specs.declared.fault.WireFault.TheVariants.{Truncated, BadTag, TooLong, BadKind}
+use Rattle.cs_wire.specs.declared.fault.WireFault.TheVariants.{Truncated, BadTag, TooLong, BadKind, NotUtf8}
 use Rattle.cs_wire.specs.declared.short_answer.ShortAnswer.{ShortAnswer}
 use Rattle.cs_wire.specs.declared.short_answer.ShortAnswer.TheVariants.{Accepted, Stale, Refused}
 use Rattle.cs_wire.proofs.Begins.{sized_length}
@@ -38,14 +38,13 @@ items (suc count) bytes = behind_entry (entry_reading bytes) (items count)
 pub entry_wrong : (fault : WireFault) (bytes : List ℕ) → IsEntryFault fault bytes → entry_reading bytes ≡ Err fault
 unfolding entry_reading entry_behind sized_entry
 entry_wrong Truncated bytes (inl is) = rw is refl
-entry_wrong Truncated bytes (inr (inl (rest, is, few))) = rw (is, below (length rest) 16 few) refl
-entry_wrong Truncated bytes (inr (inr (origin, number, size, part, fits, is, few))) =
-    rw is (numbers_back origin number size part fits ∙ rw (below (length part) size few) refl)
-entry_wrong BadKind bytes (kind, rest, is, other) =
-    let no : nat_eq kind 0 ≡ false = grind (arith, nat_tests) in
-    rw (is, no) refl
+entry_wrong Truncated bytes (inr (inl (kind, rest, known, is, few))) = rw (is, below kind kinds known, below (length rest) 16 few) refl
+entry_wrong Truncated bytes (inr (inr (kind, origin, number, size, part, known, fits, is, few))) =
+    rw (is, below kind kinds known) (numbers_back kind origin number size part fits ∙ rw (below (length part) size few) refl)
+entry_wrong BadKind bytes (kind, rest, is, other) = rw (is, not_below kind kinds other) refl
 entry_wrong BadTag bytes none = absurd none
 entry_wrong TooLong bytes none = absurd none
+entry_wrong NotUtf8 bytes none = absurd none
 
 -- an entry at the front comes before the others
 item_more : (count : ℕ) (entry : ToldEntry) (rest : List ℕ) → FitsEntry entry → items (suc count) (entry_spelling entry ++ rest) ≡ before_items entry (items count rest)
@@ -82,6 +81,7 @@ items_wrong count Truncated bytes is = rw is.stand.are (items_next is.before cou
 items_wrong count BadKind bytes is = rw is.stand.are (items_next is.before count BadKind is.rest is.fewer is.stand.fit is.wrong)
 items_wrong count TooLong bytes is = rw (is.stand.are, ← is.all) (items_behind is.entries is.more is.stand.fit is.some)
 items_wrong count BadTag bytes none = absurd none
+items_wrong count NotUtf8 bytes none = absurd none
 
 -- ---- an answer
 
@@ -201,3 +201,4 @@ reads_answer bytes (Err TooLong) (inl (inr (origin, first, next, size, more, fit
     ap answer_reading is ∙ merged_back origin first next size more fits ∙ rw (not_below (length more) size (omega (arith, many)), below size (length more) many) refl
 reads_answer bytes (Err TooLong) (inr (first, count, behind, fits, is, wrong)) = entries_wrong first count behind TooLong bytes fits is wrong
 reads_answer bytes (Err BadKind) (first, count, behind, fits, is, wrong) = entries_wrong first count behind BadKind bytes fits is wrong
+reads_answer bytes (Err NotUtf8) none = absurd none

@@ -6,14 +6,14 @@ use Rattle.std.proofs.lemmas.Bool.Decides.{eqb_tells}
 use Rattle.std.proofs.lemmas.List.{take-append-drop}
 use Rattle.cs_varint.specs.Bytes.{AreBytes}
 use Rattle.cs_wire.specs.Answers.{FitsShort, FitsEntriesNumbers, FitsMerged, ReadsAnswer, accepted_numbers, entries_numbers, merged_numbers, short_before, accepted_tag, stale_tag, refused_tag, entries_tag, merged_tag}
-use Rattle.cs_wire.specs.Entries.{ToldEntry, FitsEntryNumbers, FindsEntries, IsEntryFault, IsFaultOfEntries, StandBefore, StandsBefore, changeset_kind, entry_numbers, entry_spelling}
+use Rattle.cs_wire.specs.Entries.{ToldEntry, FitsEntryNumbers, FindsEntries, IsEntryFault, IsFaultOfEntries, StandBefore, StandsBefore, kinds, entry_numbers, entry_spelling}
 use Rattle.cs_wire.specs.Laws.{TellsSomething}
 use Rattle.cs_wire.specs.Numbers.{four_bytes, eight_bytes}
 use Rattle.cs_wire.specs.OneSpelling.{after_four, after_eight, numbers_more}
 use Rattle.cs_wire.specs.declared.answer.Answer.{Answer}
 use Rattle.cs_wire.specs.declared.answer.Answer.TheVariants.{Short, Entries, Merged}
 use Rattle.cs_wire.specs.declared.fault.WireFault.{WireFault}
-use Rattle.cs_wire.specs.declared.fault.WireFault.TheVariants.{Truncated, BadTag, TooLong, BadKind}
+use Rattle.cs_wire.specs.declared.fault.WireFault.TheVariants.{Truncated, BadTag, TooLong, BadKind, NotUtf8}
 use Rattle.cs_wire.specs.declared.short_answer.ShortAnswer.{ShortAnswer}
 use Rattle.cs_wire.specs.declared.short_answer.ShortAnswer.TheVariants.{Accepted, Stale, Refused}
 use Rattle.cs_wire.proofs.Begins.{begins_four, begins_eight, begins_sized, small_drop}
@@ -33,47 +33,47 @@ data EntryOrFault (bytes : List ℕ) : Type 0 where
   Wrong : (fault : WireFault) → (IsEntryFault fault bytes) → EntryOrFault bytes
 
 -- a body of that length is the front of what follows the numbers
-cut_entry : (origin number size : ℕ) (part : List ℕ) → FitsEntryNumbers origin number size → size ≤ length part → (bytes : List ℕ) → bytes ≡ changeset_kind ∷ entry_numbers origin number size part → StandsBefore (record { kind = 0; origin = origin; number = number; body = take size part }) (drop size part) bytes
-cut_entry origin number size part (of, nf, sf) enough bytes is =
+cut_entry : (kind origin number size : ℕ) (part : List ℕ) → kind < kinds → FitsEntryNumbers origin number size → size ≤ length part → (bytes : List ℕ) → bytes ≡ kind ∷ entry_numbers origin number size part → StandsBefore (record { kind = kind; origin = origin; number = number; body = take size part }) (drop size part) bytes
+cut_entry kind origin number size part known (of, nf, sf) enough bytes is =
     let long : length (take size part) ≡ size = length-take-le size part enough in (
-      (refl, (of, nf, rw long sf)),
+      (known, (of, nf, rw long sf)),
       is
-          ∙ ap (λ (p : List ℕ). changeset_kind ∷ entry_numbers origin number size p) (sym (take-append-drop size part))
-          ∙ ap (λ (t : List ℕ). changeset_kind ∷ t) (sym (numbers_more origin number size (take size part) (drop size part)))
-          ∙ ap (λ (n : ℕ). (changeset_kind ∷ entry_numbers origin number n (take size part)) ++ drop size part) (sym long),
+          ∙ ap (λ (p : List ℕ). kind ∷ entry_numbers origin number size p) (sym (take-append-drop size part))
+          ∙ ap (λ (t : List ℕ). kind ∷ t) (sym (numbers_more origin number size (take size part) (drop size part)))
+          ∙ ap (λ (n : ℕ). (kind ∷ entry_numbers origin number n (take size part)) ++ drop size part) (sym long),
     )
 
-sized_entry_found : (origin number size : ℕ) (part : List ℕ) (bytes : List ℕ) → FitsEntryNumbers origin number size → AreBytes part → bytes ≡ changeset_kind ∷ entry_numbers origin number size part → EntryOrFault bytes
-sized_entry_found origin number size part bytes fits small is =
+sized_entry_found : (kind origin number size : ℕ) (part : List ℕ) (bytes : List ℕ) → kind < kinds → FitsEntryNumbers origin number size → AreBytes part → bytes ≡ kind ∷ entry_numbers origin number size part → EntryOrFault bytes
+sized_entry_found kind origin number size part bytes known fits small is =
     elim (cases_lt (length part) size) [
-      | inl few ↦ Wrong Truncated (inr (inr (origin, number, size, part, fits, is, few)))
+      | inl few ↦ Wrong Truncated (inr (inr (kind, origin, number, size, part, known, fits, is, few)))
       | inr enough ↦
           Found (record {
-            entry = record { kind = 0; origin = origin; number = number; body = take size part };
+            entry = record { kind = kind; origin = origin; number = number; body = take size part };
             rest = drop size part;
-            stands = cut_entry origin number size part fits enough bytes is;
+            stands = cut_entry kind origin number size part known fits enough bytes is;
             small = small_drop size part small;
           })
     ]
 
-long_entry : (rest : List ℕ) → AreBytes rest → 16 ≤ length rest → EntryOrFault (changeset_kind ∷ rest)
-long_entry rest small long =
+long_entry : (kind : ℕ) (rest : List ℕ) → kind < kinds → AreBytes rest → 16 ≤ length rest → EntryOrFault (kind ∷ rest)
+long_entry kind rest known small long =
     let origin = begins_four rest small (omega (arith, long)) in
     let number = begins_eight origin.rest origin.small (omega (arith, after_four rest origin.rest origin.number origin.is)) in
     let size = begins_four number.rest number.small (omega (arith, after_four rest origin.rest origin.number origin.is, after_eight origin.rest number.rest number.number number.is)) in
     let is : rest ≡ entry_numbers origin.number number.number size.number size.rest =
     origin.is ∙ ap (λ (r : List ℕ). four_bytes origin.number ++ r) (number.is ∙ ap (λ (r : List ℕ). eight_bytes number.number ++ r) size.is) in
-    sized_entry_found origin.number number.number size.number size.rest (changeset_kind ∷ rest) (origin.fits, number.fits, size.fits) size.small (ap (λ (r : List ℕ). changeset_kind ∷ r) is)
+    sized_entry_found kind origin.number number.number size.number size.rest (kind ∷ rest) known (origin.fits, number.fits, size.fits) size.small (ap (λ (r : List ℕ). kind ∷ r) is)
 
 entry_or_fault : (bytes : List ℕ) → AreBytes bytes → EntryOrFault bytes
 entry_or_fault [] all = Wrong Truncated (inl refl)
 entry_or_fault (kind ∷ rest) all =
-    elim (eqb_tells kind changeset_kind) [
-      | inr (e, other) ↦ Wrong BadKind (kind, rest, refl, other)
-      | inl (e, is) ↦ subst (λ (k : ℕ). EntryOrFault (k ∷ rest)) (sym is) (elim (cases_lt (length rest) 16) [
-        | inl few ↦ Wrong Truncated (inr (inl (rest, refl, few)))
-        | inr long ↦ long_entry rest (λ i. all (suc i)) long
-      ])
+    elim (cases_lt kind kinds) [
+      | inr other ↦ Wrong BadKind (kind, rest, refl, other)
+      | inl known ↦ elim (cases_lt (length rest) 16) [
+        | inl few ↦ Wrong Truncated (inr (inl (kind, rest, known, refl, few)))
+        | inr long ↦ long_entry kind rest known (λ i. all (suc i)) long
+      ]
     ]
 
 -- ---- entries
@@ -86,6 +86,7 @@ first_wrong count Truncated bytes some wrong = record { before = []; rest = byte
 first_wrong count BadKind bytes some wrong = record { before = []; rest = bytes; fewer = some; stand = record { fit = tt; are = refl }; wrong = wrong }
 first_wrong count BadTag bytes some wrong = wrong
 first_wrong count TooLong bytes some wrong = absurd wrong
+first_wrong count NotUtf8 bytes some wrong = absurd wrong
 
 -- one more before others that stand
 stand_more : (entry : ToldEntry) (rest bytes : List ℕ) (entries : List ToldEntry) (behind : List ℕ) → StandsBefore entry rest bytes → StandBefore entries behind rest → StandBefore (entry ∷ entries) behind bytes
@@ -99,6 +100,7 @@ later_wrong count Truncated entry rest bytes first is = record { before = entry 
 later_wrong count BadKind entry rest bytes first is = record { before = entry ∷ is.before; rest = is.rest; fewer = omega (arith, is.fewer); stand = stand_more entry rest bytes is.before is.rest first is.stand; wrong = is.wrong }
 later_wrong count TooLong entry rest bytes first is = record { entries = entry ∷ is.entries; more = is.more; all = ap suc is.all; stand = stand_more entry rest bytes is.entries is.more first is.stand; some = is.some }
 later_wrong count BadTag entry rest bytes first none = absurd none
+later_wrong count NotUtf8 entry rest bytes first none = absurd none
 
 entries_after : (count : ℕ) (entry : ToldEntry) (rest bytes : List ℕ) → StandsBefore entry rest bytes → Finds count rest → Finds (suc count) bytes
 entries_after count entry rest bytes first (Ok entries, (many, fits, are)) =
@@ -160,6 +162,7 @@ numbered_wrong first count behind Truncated fits wrong = inr (first, count, behi
 numbered_wrong first count behind TooLong fits wrong = inr (first, count, behind, fits, refl, wrong)
 numbered_wrong first count behind BadKind fits wrong = (first, count, behind, fits, refl, wrong)
 numbered_wrong first count behind BadTag fits wrong = absurd wrong
+numbered_wrong first count behind NotUtf8 fits wrong = absurd wrong
 
 numbered : (first count : ℕ) (behind : List ℕ) → FitsEntriesNumbers first count → Finds count behind → TellsIt (Numbered first count behind)
 numbered first count behind fits (Ok entries, (many, each, are)) =

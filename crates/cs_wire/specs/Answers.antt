@@ -6,7 +6,7 @@ use Rattle.cs_wire.specs.Numbers.{four_bytes, eight_bytes}
 use Rattle.cs_wire.specs.declared.answer.Answer.{Answer}
 use Rattle.cs_wire.specs.declared.answer.Answer.TheVariants.{Short, Entries, Merged}
 use Rattle.cs_wire.specs.declared.fault.WireFault.{WireFault}
-use Rattle.cs_wire.specs.declared.fault.WireFault.TheVariants.{Truncated, BadTag, TooLong, BadKind}
+use Rattle.cs_wire.specs.declared.fault.WireFault.TheVariants.{Truncated, BadTag, TooLong, BadKind, NotUtf8}
 use Rattle.cs_wire.specs.declared.short_answer.ShortAnswer.{ShortAnswer}
 use Rattle.cs_wire.specs.declared.short_answer.ShortAnswer.TheVariants.{Accepted, Stale, Refused}
 
@@ -129,6 +129,7 @@ IsAnswerFault Truncated bytes = IsPartialAnswer bytes ⊎ HasEntriesFault Trunca
 IsAnswerFault BadTag bytes = (tag : ℕ) × (rest : List ℕ) × (bytes ≡ tag ∷ rest) × IsNoTag tag
 IsAnswerFault TooLong bytes = IsLongerAnswer bytes ⊎ HasEntriesFault TooLong bytes
 IsAnswerFault BadKind bytes = HasEntriesFault BadKind bytes
+IsAnswerFault NotUtf8 bytes = ⊥
 
 -- ---- what reading gives
 

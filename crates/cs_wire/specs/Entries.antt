@@ -1,9 +1,9 @@
 -- Entries as an answer tells them: how each is spelled in bytes, and what is wrong where one is to stand.
-use Rattle.std.specs.Prelude.{◌≡◌, ◌≢◌, ◌⊎◌, ℕ, ◌<◌, ◌^◌, List, [], ◌∷◌, ◌++◌, length, Result, Ok, Err}
+use Rattle.std.specs.Prelude.{◌≡◌, ◌⊎◌, ℕ, ◌<◌, ◌≤◌, ◌^◌, List, [], ◌∷◌, ◌++◌, length, Result, Ok, Err}
 use Rattle.std.specs.List.{flat_map, AllByRecursion}
 use Rattle.cs_wire.specs.Numbers.{four_bytes, eight_bytes}
 use Rattle.cs_wire.specs.declared.fault.WireFault.{WireFault}
-use Rattle.cs_wire.specs.declared.fault.WireFault.TheVariants.{Truncated, BadTag, TooLong, BadKind}
+use Rattle.cs_wire.specs.declared.fault.WireFault.TheVariants.{Truncated, BadTag, TooLong, BadKind, NotUtf8}
 
 -- the kind of what it does, whose push it was, the number that its replica gave it, and the bytes of what it does
 pub record ToldEntry : Type 0 where
@@ -12,9 +12,9 @@ pub record ToldEntry : Type 0 where
   pub number : ℕ
   pub body : List ℕ
 
--- the kind of an entry that does a changeset; there is no other
-abbrev pub changeset_kind : ℕ
-changeset_kind = 0
+-- the kinds of entries: 0 is one that does a changeset, 1 one that widens a table
+abbrev pub kinds : ℕ
+kinds = 2
 
 -- the numbers of an entry, and what follows them
 abbrev pub entry_numbers : ℕ → ℕ → ℕ → List ℕ → List ℕ
@@ -28,9 +28,9 @@ entry_spelling entry = entry.kind ∷ entry_numbers entry.origin entry.number (l
 abbrev pub FitsEntryNumbers : ℕ → ℕ → ℕ → Type 0
 FitsEntryNumbers origin number size = (origin < 2 ^ 32) × (number < 2 ^ 64) × (size < 2 ^ 32)
 
--- it is of the kind that there is, and its numbers are in range
+-- it is of a kind that there is, and its numbers are in range
 abbrev pub FitsEntry : ToldEntry → Type 0
-FitsEntry entry = (entry.kind ≡ changeset_kind) × FitsEntryNumbers entry.origin entry.number (length entry.body)
+FitsEntry entry = (entry.kind < kinds) × FitsEntryNumbers entry.origin entry.number (length entry.body)
 
 -- ---- what is wrong where an entry is to stand
 
@@ -38,15 +38,16 @@ FitsEntry entry = (entry.kind ≡ changeset_kind) × FitsEntryNumbers entry.orig
 abbrev pub IsPartialEntry : List ℕ → Type 0
 IsPartialEntry bytes =
     (bytes ≡ [])
-    ⊎ ((rest : List ℕ) × (bytes ≡ changeset_kind ∷ rest) × (length rest < 16))
-    ⊎ ((origin : ℕ) × (number : ℕ) × (size : ℕ) × (part : List ℕ) × FitsEntryNumbers origin number size
-    × (bytes ≡ changeset_kind ∷ entry_numbers origin number size part) × (length part < size))
+    ⊎ ((kind : ℕ) × (rest : List ℕ) × (kind < kinds) × (bytes ≡ kind ∷ rest) × (length rest < 16))
+    ⊎ ((kind : ℕ) × (origin : ℕ) × (number : ℕ) × (size : ℕ) × (part : List ℕ) × (kind < kinds) × FitsEntryNumbers origin number size
+    × (bytes ≡ kind ∷ entry_numbers origin number size part) × (length part < size))
 
 abbrev pub IsEntryFault : WireFault → List ℕ → Type 0
 IsEntryFault Truncated bytes = IsPartialEntry bytes
-IsEntryFault BadKind bytes = (kind : ℕ) × (rest : List ℕ) × (bytes ≡ kind ∷ rest) × (kind ≢ changeset_kind)
+IsEntryFault BadKind bytes = (kind : ℕ) × (rest : List ℕ) × (bytes ≡ kind ∷ rest) × (kinds ≤ kind)
 IsEntryFault BadTag bytes = ⊥
 IsEntryFault TooLong bytes = ⊥
+IsEntryFault NotUtf8 bytes = ⊥
 
 -- whole entries stand at the front, before the rest
 pub record StandBefore (entries : List ToldEntry) (rest bytes : List ℕ) : Type 0 where
@@ -74,6 +75,7 @@ IsFaultOfEntries count Truncated bytes = IsFaultOfNext count Truncated bytes
 IsFaultOfEntries count BadKind bytes = IsFaultOfNext count BadKind bytes
 IsFaultOfEntries count TooLong bytes = HaveMoreBehind count bytes
 IsFaultOfEntries count BadTag bytes = ⊥
+IsFaultOfEntries count NotUtf8 bytes = ⊥
 
 -- ---- what reading gives
 

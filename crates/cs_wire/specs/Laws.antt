@@ -1,6 +1,5 @@
 -- The laws of requests and answers.
 use Rattle.std.specs.Prelude.{◌≡◌, ◌≢◌, ℕ, ◌<◌, ◌^◌, List, [], ◌++◌, length, map, All, Result}
-use Rattle.cs_store.specs.log.Entry.{WidensNone}
 use Rattle.cs_store.specs.declared.log.entry.LogEntry.{LogEntry}
 use Rattle.cs_varint.specs.Bytes.{AreBytes}
 use Rattle.cs_wire.specs.Answers.{FitsAnswer, IsAnswerFault, ReadsAnswer, answer_spelling}
@@ -17,7 +16,7 @@ OneRequest =
     (bytes : List ℕ) (one other : Result Asked WireFault) → ReadsRequest bytes one → ReadsRequest bytes other
     → one ≡ other
 
--- bytes ask something: a push, a pull, a catch, or nothing, where they have a fault
+-- bytes ask something: a push, a pull, a catch, a wider table, or nothing, where they have a fault
 abbrev pub AsksSomething : Type 0
 AsksSomething = (bytes : List ℕ) → AreBytes bytes → (asked : Result Asked WireFault) × ReadsRequest bytes asked
 
@@ -47,8 +46,8 @@ FrontOfAnswer =
 abbrev pub HasNumbersInRange : LogEntry → Type 0
 HasNumbersInRange entry = (entry.origin < 2 ^ 32) × (entry.number < 2 ^ 64)
 
--- entries of a log that fit a message, and widen no table, are an answer: their bytes are read as what was told of them
+-- entries of a log that fit a message are an answer: their bytes are read as what was told of them
 abbrev pub ToldAreRead : Type 0
 ToldAreRead =
     (first : ℕ) (log : List LogEntry) → first < 2 ^ 64 → length log < 2 ^ 32 → All FitsMessage log
-    → All HasNumbersInRange log → All (λ entry. WidensNone entry.body) log → FitsAnswer (Entries first (map told_entry log))
+    → All HasNumbersInRange log → FitsAnswer (Entries first (map told_entry log))

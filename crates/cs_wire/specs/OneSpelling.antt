@@ -5,7 +5,7 @@ use Rattle.std.specs.List.{flat_map, AllByRecursion}
 use Rattle.std.proofs.Math.Seq.{take-append_seam, drop-append_seam}
 use Rattle.std.proofs.lemmas.Nat.{from_be_bytes-to_be_bytes_4, from_be_bytes-to_be_bytes_8}
 use Rattle.std.proofs.lemmas.Bool.Decides.{nat_tests}
-use Rattle.cs_wire.specs.Entries.{ToldEntry, FitsEntryNumbers, FitsEntry, entry_numbers, entry_spelling}
+use Rattle.cs_wire.specs.Entries.{ToldEntry, FitsEntryNumbers, FitsEntry, entry_numbers, entry_spelling, kinds}
 use Rattle.cs_wire.specs.Numbers.{four_bytes, eight_bytes}
 use Rattle.cs_wire.specs.declared.fault.WireFault.{WireFault}
 use Rattle.cs_wire.specs.declared.fault.WireFault.TheVariants.{Truncated, BadKind}
@@ -57,19 +57,19 @@ below n m lt = grind (arith, nat_tests)
 
 -- ---- the entry at the front, as a function
 
-unfoldable pub sized_entry : ℕ → ℕ → ℕ → List ℕ → Result (ToldEntry × List ℕ) WireFault
-sized_entry origin number size part =
+unfoldable pub sized_entry : ℕ → ℕ → ℕ → ℕ → List ℕ → Result (ToldEntry × List ℕ) WireFault
+sized_entry kind origin number size part =
     cond (nat_lt (length part) size) (Err Truncated)
-    (Ok (record { kind = 0; origin = origin; number = number; body = take size part }, drop size part))
+    (Ok (record { kind = kind; origin = origin; number = number; body = take size part }, drop size part))
 
-unfoldable pub entry_behind : List ℕ → Result (ToldEntry × List ℕ) WireFault
-entry_behind rest =
+unfoldable pub entry_behind : ℕ → List ℕ → Result (ToldEntry × List ℕ) WireFault
+entry_behind kind rest =
     cond (nat_lt (length rest) 16) (Err Truncated)
-    (sized_entry (four rest) (eight (drop 4 rest)) (four (drop 8 (drop 4 rest))) (drop 4 (drop 8 (drop 4 rest))))
+    (sized_entry kind (four rest) (eight (drop 4 rest)) (four (drop 8 (drop 4 rest))) (drop 4 (drop 8 (drop 4 rest))))
 
 unfoldable pub entry_reading : List ℕ → Result (ToldEntry × List ℕ) WireFault
 entry_reading [] = Err Truncated
-entry_reading (kind ∷ rest) = cond (nat_eq kind 0) (entry_behind rest) (Err BadKind)
+entry_reading (kind ∷ rest) = cond (nat_lt kind kinds) (entry_behind kind rest) (Err BadKind)
 
 pub numbers_length : (origin number size : ℕ) (part : List ℕ) → length (entry_numbers origin number size part) ≡ 16 + length part
 numbers_length origin number size part =
@@ -80,9 +80,9 @@ numbers_length origin number size part =
       after_four (four_bytes size ++ part) part size refl,
     )
 
-pub numbers_back : (origin number size : ℕ) (part : List ℕ) → FitsEntryNumbers origin number size → entry_behind (entry_numbers origin number size part) ≡ sized_entry origin number size part
+pub numbers_back : (kind origin number size : ℕ) (part : List ℕ) → FitsEntryNumbers origin number size → entry_behind kind (entry_numbers origin number size part) ≡ sized_entry kind origin number size part
 unfolding entry_behind
-numbers_back origin number size part (of, nf, sf) =
+numbers_back kind origin number size part (of, nf, sf) =
     let long = not_below (length (entry_numbers origin number size part)) 16 (omega (arith, numbers_length origin number size part)) in
     rw (long, four_rest, eight_rest, four_rest, four_back origin _ of, eight_back number _ nf, four_back size part sf) refl
 
@@ -91,23 +91,22 @@ pub numbers_more : (origin number size : ℕ) (body rest : List ℕ) → entry_n
 unfolding four_bytes eight_bytes
 numbers_more origin number size body rest = refl
 
-sized_back : (origin number : ℕ) (body rest : List ℕ) → sized_entry origin number (length body) (body ++ rest) ≡ Ok (record { kind = 0; origin = origin; number = number; body = body }, rest)
+sized_back : (kind origin number : ℕ) (body rest : List ℕ) → sized_entry kind origin number (length body) (body ++ rest) ≡ Ok (record { kind = kind; origin = origin; number = number; body = body }, rest)
 unfolding sized_entry
-sized_back origin number body rest =
+sized_back kind origin number body rest =
     let long = not_below (length (body ++ rest)) (length body) (omega (arith, length-append body rest)) in
     rw (long, take-append_seam body rest, drop-append_seam body rest) refl
 
-kind_back : (kind : ℕ) (rest : List ℕ) → kind ≡ 0 → entry_reading (kind ∷ rest) ≡ entry_behind rest
+kind_back : (kind : ℕ) (rest : List ℕ) → kind < kinds → entry_reading (kind ∷ rest) ≡ entry_behind kind rest
 unfolding entry_reading
-kind_back kind rest is = rw is refl
+kind_back kind rest is = rw (below kind kinds is) refl
 
 pub entry_back : (entry : ToldEntry) (rest : List ℕ) → FitsEntry entry → entry_reading (entry_spelling entry ++ rest) ≡ Ok (entry, rest)
 entry_back entry rest (kind, fits) =
     ap (λ (t : List ℕ). entry_reading (entry.kind ∷ t)) (numbers_more entry.origin entry.number (length entry.body) entry.body rest)
     ∙ kind_back entry.kind _ kind
-    ∙ numbers_back entry.origin entry.number (length entry.body) (entry.body ++ rest) fits
-    ∙ sized_back entry.origin entry.number entry.body rest
-    ∙ ap (λ (k : ℕ). Ok (record { kind = k; origin = entry.origin; number = entry.number; body = entry.body }, rest)) (sym kind)
+    ∙ numbers_back entry.kind entry.origin entry.number (length entry.body) (entry.body ++ rest) fits
+    ∙ sized_back entry.kind entry.origin entry.number entry.body rest
 
 -- ---- one list of entries
 

@@ -7,9 +7,8 @@ use crate::fault::WireFault;
 use crate::numbers::{split_u32, split_u64};
 use std::marker::Model;
 
-/// The kind of an entry that does a changeset, which is that of a log's body with changes as it stands there (`Body::kind` of `cs_store::log`).
-/// There is no other.
-const CHANGESET: u8 = 0;
+/// How many kinds of entries there are. They are those of a log's bodies as they stand there (`Body::kind` of `cs_store::log`).
+const KINDS: u8 = 2;
 
 /// An entry of an answer: its kind, whose push it was, the number that its replica gave it, and the bytes of what it does.
 /// Contracts see it as these four.
@@ -79,7 +78,7 @@ pub(crate) fn split_entry(bytes: &[u8]) -> Result<(WireEntry<'_>, &[u8]), WireFa
     let Some((kind, rest)) = bytes.split_first() else {
         return Err(WireFault::Truncated);
     };
-    if *kind != CHANGESET {
+    if *kind >= KINDS {
         return Err(WireFault::BadKind);
     }
     let Some((origin, number, size, rest)) = split_numbers(rest) else {

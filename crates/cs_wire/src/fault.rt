@@ -20,10 +20,13 @@ pub enum WireFault {
     /// An entry does what no kind of entry does.
     #[error("BadKind")]
     BadKind,
+    /// A name is no text in UTF-8.
+    #[error("NotUtf8")]
+    NotUtf8,
 }
 
 impl WireFault {
-    /// The code by which programs tell the fault: 2, 20, 21 or 23.
+    /// The code by which programs tell the fault: 2, 20, 21, 23 or 6.
     pub fn code(self) -> u8
         ensures { result ≡ wire_code self }
     {
@@ -32,6 +35,7 @@ impl WireFault {
             WireFault::BadTag => 20,
             WireFault::TooLong => 21,
             WireFault::BadKind => 23,
+            WireFault::NotUtf8 => 6,
         }
     }
 }

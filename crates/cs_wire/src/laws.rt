@@ -7,7 +7,7 @@ pub fn one_request()
     ensures { OneRequest }
 {}
 
-/// Bytes ask a push, a pull or a catch, or have a fault.
+/// Bytes ask a push, a pull, a catch or a wider table, or have a fault.
 pub fn asks_something()
     ensures { AsksSomething }
 {}

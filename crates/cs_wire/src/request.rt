@@ -1,13 +1,13 @@
 //! Requests: what a replica asks of the hub.
 
 ghost use Rattle.std.specs.Prelude.{◌≡◌, ◌<◌, ◌^◌, ◌∷◌, ◌++◌, length, MatchOption, OnOk, OnErr};
-ghost use Rattle.cs_wire.specs.Requests.{ReadsRequest, asked_of, catch_spelling, catch_tag, pull_numbers, pull_spelling, pull_tag, push_spelling, push_tag};
+ghost use Rattle.cs_wire.specs.Requests.{ReadsRequest, asked_of, catch_spelling, catch_tag, pull_numbers, pull_spelling, pull_tag, push_spelling, push_tag, widen_numbers, widen_request_spelling, widen_tag};
 
 use crate::entry::split_numbers;
 use crate::fault::WireFault;
 use crate::numbers::{put, put_u8, put_u32, put_u64, split_sized, split_u32, split_u64};
 use crate::push_head::PushHead;
-use cs_value::Memory;
+use cs_value::{Memory, Text};
 
 /// The first bytes of requests.
 const PUSH: u8 = 1;
@@ -16,26 +16,62 @@ const PULL: u8 = 2;
 
 const CATCH: u8 = 3;
 
-/// A request, with the bytes of a changeset that stand elsewhere.
+const WIDEN: u8 = 4;
+
+/// A request, whose changeset or name stands elsewhere.
 #[derive(Clone, Copy, Debug)]
 pub enum Request<'a> {
     /// Take the changeset that a replica made on the tables of the version `base`.
-    Push { head: PushHead, changeset: &'a [u8] },
+    Push {
+        head: PushHead,
+        changeset: &'a [u8],
+    },
     /// Tell the entries from `first` on, at most `limit`.
-    Pull { first: u64, limit: u32 },
+    Pull {
+        first: u64,
+        limit: u32,
+    },
     /// Tell what the entries from `first` on do together, at most `limit`, up to the first that is of this origin.
-    Catch { origin: u32, first: u64, limit: u32 },
+    Catch {
+        origin: u32,
+        first: u64,
+        limit: u32,
+    },
+    /// Give the table so many columns, behind those that it has. This was asked for as number `number`, on the tables of the version `base`.
+    Widen {
+        number: u64,
+        base: u64,
+        width: u32,
+        table: &'a str,
+    },
 }
 
-/// A request that owns the bytes of its changeset.
+/// A request that owns its changeset or its name.
 #[derive(Drop)]
 pub enum RequestBuf {
     /// Take the changeset that a replica made on the tables of the version `base`.
-    Push { head: PushHead, changeset: Vec<u8> },
+    Push {
+        head: PushHead,
+        changeset: Vec<u8>,
+    },
     /// Tell the entries from `first` on, at most `limit`.
-    Pull { first: u64, limit: u32 },
+    Pull {
+        first: u64,
+        limit: u32,
+    },
     /// Tell what the entries from `first` on do together, at most `limit`, up to the first that is of this origin.
-    Catch { origin: u32, first: u64, limit: u32 },
+    Catch {
+        origin: u32,
+        first: u64,
+        limit: u32,
+    },
+    /// Give the table so many columns, behind those that it has. This was asked for as number `number`, on the tables of the version `base`.
+    Widen {
+        number: u64,
+        base: u64,
+        width: u32,
+        table: Text,
+    },
 }
 
 /// The numbers of a Pull: first, limit; and the rest.
@@ -98,6 +134,42 @@ fn read_catch(rest: &[u8]) -> Result<Request<'_>, WireFault>
     })
 }
 
+/// The numbers of a Widen: number, base, width, the length of the name; and the rest.
+fn split_named(bytes: &[u8]) -> Option<(u64, u64, u32, u32, &[u8])>
+    ensures { MatchOption result (length bytes.now < 24)
+        (λ split. bytes.now ≡ widen_numbers split.0 split.1 split.2 split.3 split.4.now) }
+{
+    let (number, rest) = split_u64(bytes)?;
+    let (base, rest) = split_u64(rest)?;
+    let (width, rest) = split_u32(rest)?;
+    let (size, rest) = split_u32(rest)?;
+    Some((number, base, width, size, rest))
+}
+
+/// The Widen behind its tag.
+fn read_widen(rest: &[u8]) -> Result<Request<'_>, WireFault>
+    ensures { ReadsRequest (widen_tag ∷ rest.now) (asked_of result) }
+{
+    let Some((number, base, width, size, name)) = split_named(rest) else {
+        return Err(WireFault::Truncated);
+    };
+    if name.len() < size as usize {
+        return Err(WireFault::Truncated);
+    }
+    if name.len() > size as usize {
+        return Err(WireFault::TooLong);
+    }
+    let Ok(table) = str::from_utf8(name) else {
+        return Err(WireFault::NotUtf8);
+    };
+    Ok(Request::Widen {
+        number,
+        base,
+        width,
+        table,
+    })
+}
+
 /// Reads a request: the whole of the bytes.
 fn read_request(bytes: &[u8]) -> Result<Request<'_>, WireFault>
     ensures { ReadsRequest bytes.now (asked_of result) }
@@ -107,6 +179,7 @@ fn read_request(bytes: &[u8]) -> Result<Request<'_>, WireFault>
         Some((&PUSH, rest)) => read_push(rest),
         Some((&PULL, rest)) => read_pull(rest),
         Some((&CATCH, rest)) => read_catch(rest),
+        Some((&WIDEN, rest)) => read_widen(rest),
         Some(_) => Err(WireFault::BadTag),
     }
 }
@@ -152,13 +225,35 @@ fn put_catch(origin: u32, first: u64, limit: u32, out: &mut Vec<u8>) -> Result<(
     Ok(())
 }
 
+/// Appends a Widen. An `Err` changes nothing.
+fn put_widen(
+    number: u64,
+    base: u64,
+    width: u32,
+    table: &[u8],
+    out: &mut Vec<u8>,
+) -> Result<(), Memory>
+    requires { length table.now < 2 ^ 32 }
+    ensures ok { OnOk result (out.new.items ≡ out.old.items ++ widen_request_spelling number base width table.now) }
+    ensures err { OnErr result (out.new.items ≡ out.old.items) }
+{
+    out.reserve(25 + table.len())?;
+    put_u8(WIDEN, out);
+    put_u64(number, out);
+    put_u64(base, out);
+    put_u32(width, out);
+    put_u32(table.len() as u32, out);
+    put(table, out);
+    Ok(())
+}
+
 impl<'a> Request<'a> {
     ghost use Rattle.std.specs.Prelude.{◌≡◌, ◌≢◌, ◌↔◌, ◌++◌, [], ℕ, List, Ok, Err, IfOk, IsErrOf, OnOk, OnErr};
-    ghost use Rattle.cs_wire.specs.Requests.{Asked, FitsRequest, HasShortChangeset, IsRequestFault, asked_by, asked_of, request_spelling};
+    ghost use Rattle.cs_wire.specs.Requests.{Asked, FitsRequest, HasShortBytes, IsRequestFault, asked_by, asked_of, request_spelling};
     ghost use Rattle.cs_wire.specs.declared.fault.WireFault.{WireFault as Wrong};
     ghost use Rattle.cs_wire.specs.declared.fault.WireFault.TheVariants.{Truncated};
 
-    /// Reads a request: the whole of the bytes. It takes no memory; a changeset stays where it is.
+    /// Reads a request: the whole of the bytes. It takes no memory. A changeset and a name stay where they are.
     ///
     /// # Errors
     ///
@@ -188,7 +283,7 @@ impl<'a> Request<'a> {
     ///
     /// Memory was refused.
     pub fn encode(&self, out: &mut Vec<u8>) -> Result<(), Memory>
-        requires { HasShortChangeset (asked_by self.now) }
+        requires { HasShortBytes (asked_by self.now) }
         ensures ok { OnOk result (out.new.items ≡ out.old.items ++ request_spelling (asked_by self.now)) }
         ensures err { OnErr result (out.new.items ≡ out.old.items) }
     {
@@ -200,15 +295,21 @@ impl<'a> Request<'a> {
                 first,
                 limit,
             } => put_catch(*origin, *first, *limit, out),
+            Request::Widen {
+                number,
+                base,
+                width,
+                table,
+            } => put_widen(*number, *base, *width, table.as_bytes(), out),
         }
     }
 }
 
 impl RequestBuf {
     ghost use Rattle.std.specs.Prelude.{◌≡◌, ◌++◌, OnOk, OnErr};
-    ghost use Rattle.cs_wire.specs.Requests.{HasShortChangeset, asked_by, asked_by_owned, request_spelling};
+    ghost use Rattle.cs_wire.specs.Requests.{HasShortBytes, asked_by, asked_by_owned, request_spelling};
 
-    /// The same request, with the bytes of the changeset where they are.
+    /// The same request, with its changeset or its name where they are.
     pub fn as_request(&self) -> Request<'_>
         ensures { asked_by result ≡ asked_by_owned self.now }
     {
@@ -230,6 +331,17 @@ impl RequestBuf {
                 first: *first,
                 limit: *limit,
             },
+            RequestBuf::Widen {
+                number,
+                base,
+                width,
+                table,
+            } => Request::Widen {
+                number: *number,
+                base: *base,
+                width: *width,
+                table: table.as_str(),
+            },
         }
     }
 
@@ -239,7 +351,7 @@ impl RequestBuf {
     ///
     /// Memory was refused.
     pub fn encode(&self, out: &mut Vec<u8>) -> Result<(), Memory>
-        requires { HasShortChangeset (asked_by_owned self.now) }
+        requires { HasShortBytes (asked_by_owned self.now) }
         ensures ok { OnOk result (out.new.items ≡ out.old.items ++ request_spelling (asked_by_owned self.now)) }
         ensures err { OnErr result (out.new.items ≡ out.old.items) }
     {

@@ -53,7 +53,7 @@ use Rattle.cs_value.specs.declared.catalog.TableDef.{TableDef}
 use Rattle.cs_value.specs.declared.edit.Edit.{Edit}
 use Rattle.cs_wire.specs.Answers.{answer_spelling}
 use Rattle.cs_wire.specs.Entries.{ToldEntry}
-use Rattle.cs_wire.specs.Requests.{Asked, AsksCatch, AsksPull, AsksPush, FitsRequest, request_spelling}
+use Rattle.cs_wire.specs.Requests.{Asked, AsksCatch, AsksPull, AsksPush, AsksWiden, FitsRequest, request_spelling}
 use Rattle.cs_wire.specs.Told.{told_entry}
 use Rattle.cs_wire.specs.declared.answer.Answer.{Answer}
 use Rattle.cs_wire.specs.declared.answer.Answer.TheVariants.{Entries, Merged, Short}
@@ -343,6 +343,7 @@ module _ (laws : Below) (limit : ℕ) (small : limit < 2 ^ 32) (world : World) (
   asked_served : (asked : Asked) → FitsRequest asked → IsTrueAsked world asked → Served limit world asked
   asked_served (AsksPull first count) fits t = pull_served first count fits
   asked_served (AsksCatch asker first count) fits t = catch_served asker first count fits
+  asked_served (AsksWiden number base width table) fits t = absurd t
   asked_served (AsksPush head changeset) fits t = push_served head changeset fits t
 
   serve_exists : (k r : ℕ) (wishes : List Wish) (asked : Asked) → IsMessage world k (Asks r asked) → HasStep limit world (Deliver k wishes)

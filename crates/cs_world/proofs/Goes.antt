@@ -9,7 +9,7 @@ use Rattle.cs_normal.specs.State.{IsDefinedOn, State}
 use Rattle.cs_normal.specs.declared.normal.TableChanges.{TableChanges}
 use Rattle.cs_hub.specs.catching.Laws.{OthersAsLogGrows}
 use Rattle.cs_replica.specs.Laws.{StandsLonger}
-use Rattle.cs_wire.specs.Requests.{Asked, AsksCatch, AsksPull, AsksPush}
+use Rattle.cs_wire.specs.Requests.{Asked, AsksCatch, AsksPull, AsksPush, AsksWiden}
 use Rattle.cs_wire.specs.declared.answer.Answer.TheVariants.{Short, Entries, Merged}
 use Rattle.cs_wire.specs.declared.push_head.PushHead.{PushHead}
 use Rattle.cs_wire.specs.declared.short_answer.ShortAnswer.TheVariants.{Accepted, Stale, Refused}
@@ -92,6 +92,7 @@ module _ (longer : LongerLog) (stands : StandsLonger) (others : OthersAsLogGrows
     true_on (Asks r (AsksPush head changeset)) t = push_on head changeset t
     true_on (Asks r (AsksPull first count)) t = tt
     true_on (Asks r (AsksCatch origin first count)) t = tt
+    true_on (Asks r (AsksWiden number base width table)) t = t
     true_on (Tells r (Short (Accepted origin number version))) t = accepted_on origin number version t
     true_on (Tells r (Short (Stale newest))) t = tt
     true_on (Tells r (Short (Refused code))) t = t

@@ -20,8 +20,7 @@ use Rattle.cs_hub.specs.declared.judgement.push.Pushed.{Pushed}
 use Rattle.cs_hub.specs.declared.judgement.push.Pushed.TheVariants as pushed
 use Rattle.cs_normalising.specs.NormalFormOf.{IsNormalFormOf, IsUnfit}
 use Rattle.cs_value.specs.declared.catalog.TableDef.{TableDef}
-use Rattle.cs_store.specs.log.Entry.{WidensNone}
-use Rattle.cs_store.specs.log.Laws.{AppendedIsLog, CatalogStays, NoneWidens}
+use Rattle.cs_store.specs.log.Laws.{AppendedIsLog, CatalogStays}
 use Rattle.cs_store.specs.log.Log.{IsLog, state_of}
 use Rattle.cs_store.specs.declared.log.entry.LogEntry.{LogEntry}
 use Rattle.cs_store.specs.declared.log.entry.TheConstants.{MAX_CHANGESET}
@@ -33,7 +32,7 @@ use Rattle.cs_normal.specs.declared.normal.TableChanges.{TableChanges}
 use Rattle.cs_wire.specs.Answers.{FitsAnswer, answer_spelling}
 use Rattle.cs_wire.specs.Entries.{ToldEntry}
 use Rattle.cs_wire.specs.Laws.{HasNumbersInRange, OneRequest, OneToldAnswer, ToldAreRead}
-use Rattle.cs_wire.specs.Requests.{Asked, AsksCatch, AsksPull, AsksPush, FitsRequest, request_spelling}
+use Rattle.cs_wire.specs.Requests.{Asked, AsksCatch, AsksPull, AsksPush, AsksWiden, FitsRequest, request_spelling}
 use Rattle.cs_wire.specs.Told.{FitsMessage, told_entry}
 use Rattle.cs_wire.specs.declared.answer.Answer.{Answer}
 use Rattle.cs_wire.specs.declared.answer.Answer.TheVariants.{Short, Entries, Merged}
@@ -55,7 +54,6 @@ pub record Below : Type 0 where
   pub answer : OneToldAnswer
   pub read : ToldAreRead
   pub appended : AppendedIsLog
-  pub none : NoneWidens
   pub stays : CatalogStays
   pub caught : CaughtAreOthers
   pub caught_short : CaughtIsShort
@@ -118,7 +116,6 @@ module _ (laws : Below) (limit : ℕ) (small : limit < 2 ^ 32) (world : World) (
       laws.read first (entries_from first count world.log) in_range (omega (arith, n, m, s.short, small))
       (All-weaker (IsStoredEntry world.tables) FitsMessage (λ e stored. stored.0.size) (entries_from first count world.log) some)
       (All-weaker (IsStoredEntry world.tables) HasNumbersInRange (λ e stored. stored.1) (entries_from first count world.log) some)
-      (All-weaker (IsStoredEntry world.tables) (λ e. WidensNone e.body) (λ e stored. laws.none world.tables e.body stored.0.widens) (entries_from first count world.log) some)
 
   -- ---- entries are told together
 
@@ -302,6 +299,7 @@ module _ (laws : Below) (limit : ℕ) (small : limit < 2 ^ 32) (world : World) (
   answered (AsksCatch asker first count) bytes log fits t (inr (within, (told, catches, is)), same) =
       let by_tables = subst (λ (tables : List TableDef). Catches tables asker count (drop first world.log) told) (laws.stays world.tables world.log first s.log) catches in
       caught_so asker first count bytes log fits within (ap (λ (h : HubState). h.log) same) told by_tables is
+  answered (AsksWiden number base width table) bytes log fits t answers = absurd t
   answered (AsksPush head changeset) bytes log fits t (outcome, taken, is) =
       bytes_taken head changeset t fits bytes log outcome is taken
 

@@ -1,8 +1,9 @@
 -- That a request can be spelled has one proof at most.
 use Rattle.std.proofs.Props.{props}
-use Rattle.cs_wire.specs.Requests.{Asked, AsksCatch, AsksPull, AsksPush, HasShortChangeset}
+use Rattle.cs_wire.specs.Requests.{Asked, AsksCatch, AsksPull, AsksPush, AsksWiden, HasShortBytes}
 
-pub HasShortChangeset-prop : (asked : Asked) → IsProp (HasShortChangeset asked)
-HasShortChangeset-prop (AsksPush head changeset) = hlevel props
-HasShortChangeset-prop (AsksPull first count) = hlevel props
-HasShortChangeset-prop (AsksCatch origin first count) = hlevel props
+pub HasShortBytes-prop : (asked : Asked) → IsProp (HasShortBytes asked)
+HasShortBytes-prop (AsksPush head changeset) = hlevel props
+HasShortBytes-prop (AsksPull first count) = hlevel props
+HasShortBytes-prop (AsksCatch origin first count) = hlevel props
+HasShortBytes-prop (AsksWiden number base width table) = hlevel props

@@ -18,7 +18,7 @@ use Rattle.cs_replica.specs.Stands.{StandsOn}
 use Rattle.cs_store.specs.Contents.{Contents}
 use Rattle.cs_wire.specs.Entries.{ToldEntry}
 use Rattle.cs_wire.specs.Laws.{HasNumbersInRange}
-use Rattle.cs_wire.specs.Requests.{Asked, AsksCatch, AsksPull, AsksPush}
+use Rattle.cs_wire.specs.Requests.{Asked, AsksCatch, AsksPull, AsksPush, AsksWiden}
 use Rattle.cs_wire.specs.Told.{told_entry}
 use Rattle.cs_wire.specs.declared.answer.Answer.{Answer}
 use Rattle.cs_wire.specs.declared.answer.Answer.TheVariants.{Short, Entries, Merged}
@@ -82,6 +82,7 @@ abbrev pub IsTrueAsked : World → Asked → Type 0
 IsTrueAsked world (AsksPush head changeset) = IsTruePush world head changeset
 IsTrueAsked world (AsksPull first count) = Unit {0}
 IsTrueAsked world (AsksCatch origin first count) = Unit {0}
+IsTrueAsked world (AsksWiden number base width table) = ⊥
 
 abbrev pub IsTrue : World → Sent → Type 0
 IsTrue world (Asks r asked) = IsTrueAsked world asked

@@ -1,8 +1,8 @@
 //! The messages of a world.
 
 ghost use Rattle.std.specs.Prelude.{◌≡◌, IfOk};
-ghost use Rattle.cs_wire.specs.Requests.{HasShortChangeset, asked_by_owned, request_spelling};
-ghost use Rattle.cs_world.specs.Short.{HasShortChangeset-prop};
+ghost use Rattle.cs_wire.specs.Requests.{HasShortBytes, asked_by_owned, request_spelling};
+ghost use Rattle.cs_world.specs.Short.{HasShortBytes-prop};
 
 use cs_value::Memory;
 use cs_wire::RequestBuf;
@@ -13,7 +13,7 @@ use std::marker::Model;
 #[derive(Drop)]
 pub(crate) struct Posted {
     request: RequestBuf,
-    ghost short: { HasShortChangeset (asked_by_owned request) } by { HasShortChangeset-prop (asked_by_owned request) },
+    ghost short: { HasShortBytes (asked_by_owned request) } by { HasShortBytes-prop (asked_by_owned request) },
 }
 
 impl Model for Posted {
@@ -27,7 +27,7 @@ impl Model for Posted {
 impl Posted {
     /// The request, to be sent. It takes no memory.
     pub(crate) fn new(request: RequestBuf) -> Posted
-        requires { HasShortChangeset (asked_by_owned request) }
+        requires { HasShortBytes (asked_by_owned request) }
         ensures { result ≡ asked_by_owned request }
     {
         Posted { request }

@@ -5,7 +5,7 @@ ghost use Rattle.cs_pending.specs.Calls.{ReadsStore, WritesStore};
 ghost use Rattle.cs_pending.specs.Shows.{ShowsRows, ShowsSome};
 ghost use Rattle.cs_pending.specs.View.{View};
 ghost use Rattle.cs_pending.specs.position.Shows.{ShowsAt, ShowsSomeAt, flown};
-ghost use Rattle.cs_wire.specs.Requests.{HasShortChangeset, asked_by_owned};
+ghost use Rattle.cs_wire.specs.Requests.{HasShortBytes, asked_by_owned};
 ghost use Rattle.cs_exchange.specs.pushing.Pushes.{IsPushFault, IsPushMade, IsPushMadeIn, IsPushOf, grounded, pushed, request_of};
 ghost use Rattle.cs_exchange.specs.pushing.Steps.{IsEarlyFault, IsReady, IsSent, IsUnsent};
 ghost use Rattle.cs_exchange.specs.declared.pushing.fault.PushFault.TheVariants.{Device};
@@ -70,7 +70,7 @@ fn store_push<S: RowStore>(
         (ShowsSomeAt catalog.now position.now (S.contents store.old))
         (IsPushMadeIn catalog.now position.now (S.contents store.old)) store.old store.new result }
     ensures request { IfOk result (λ made. asked_by_owned made.0 ≡ request_of (pushed position.now made.1) made.1) }
-    ensures short { IfOk result (λ made. HasShortChangeset (asked_by_owned made.0)) }
+    ensures short { IfOk result (λ made. HasShortBytes (asked_by_owned made.0)) }
     ensures made { S.honest store.new → (view : View) → ShowsAt catalog.now (S.contents store.old) position.now view
         → IfOk result (λ made. IsPushMade catalog.now position.now view (S.contents store.new) made.1) }
     ensures refused { S.honest store.new → (view : View) → ShowsAt catalog.now (S.contents store.old) position.now view
@@ -122,7 +122,7 @@ pub fn make_push<S: RowStore>(
     ensures moved { IfOk result (IsPushOf position.old position.new) }
 
     // It can be written.
-    ensures short { IfOk result (λ request. HasShortChangeset (asked_by_owned request)) }
+    ensures short { IfOk result (λ request. HasShortBytes (asked_by_owned request)) }
 
     // What is under way is what was pending, and the store is that of a replica at the new position.
     ensures made { S.honest store.new → (view : View) → ShowsAt catalog.now (S.contents store.old) position.old view

@@ -4,7 +4,7 @@ ghost use Rattle.std.specs.Prelude.{◌≡◌, ◌<◌, ◌⊎◌, length, IsSom
 ghost use Rattle.cs_store.specs.declared.log.entry.TheConstants.{MAX_CHANGESET as MOST_BYTES};
 ghost use Rattle.cs_normal.specs.Normal.{normal_spelling};
 ghost use Rattle.cs_pending.specs.position.Shows.{flown};
-ghost use Rattle.cs_wire.specs.Requests.{AsksPush, HasShortChangeset, asked_by_owned};
+ghost use Rattle.cs_wire.specs.Requests.{AsksPush, HasShortBytes, asked_by_owned};
 ghost use Rattle.cs_exchange.specs.pushing.Pushes.{IsResendFault, request_of};
 ghost use Rattle.cs_exchange.specs.declared.pushing.fault.PushFault.TheVariants.{Memory, TooLarge};
 
@@ -22,7 +22,7 @@ pub(crate) fn request_for(
     changes: &Normal,
 ) -> Result<RequestBuf, PushFault>
     ensures request { IfOk result (λ request. asked_by_owned request ≡ AsksPush head (normal_spelling changes.now)) }
-    ensures short { IfOk result (λ request. HasShortChangeset (asked_by_owned request)) }
+    ensures short { IfOk result (λ request. HasShortBytes (asked_by_owned request)) }
     ensures refused { IfErr result (λ fault. (fault ≡ Memory)
         ⊎ ((fault ≡ TooLarge) × (MOST_BYTES < length (normal_spelling changes.now)))) }
 {
@@ -46,7 +46,7 @@ pub fn resend(alloc: Global, position: &Position) -> Result<RequestBuf, PushFaul
     ensures request { IfOk result (λ request. asked_by_owned request ≡ request_of position.now (flown position.now.flight)) }
 
     // It can be written.
-    ensures short { IfOk result (λ request. HasShortChangeset (asked_by_owned request)) }
+    ensures short { IfOk result (λ request. HasShortBytes (asked_by_owned request)) }
 
     // What is told holds.
     ensures refused { IfErr result (λ fault. IsResendFault fault position.now) }

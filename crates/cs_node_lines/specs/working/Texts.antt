@@ -30,6 +30,7 @@ wire_fault_text wire.Truncated = codes "Truncated"
 wire_fault_text wire.BadTag = codes "BadTag"
 wire_fault_text wire.TooLong = codes "TooLong"
 wire_fault_text wire.BadKind = codes "BadKind"
+wire_fault_text wire.NotUtf8 = codes "NotUtf8"
 
 abbrev pub store_fault_text : StoreFault → List ℕ
 store_fault_text store.Memory = codes "Memory"

@@ -14,6 +14,7 @@ pub(crate) fn wire_fault_name(fault: WireFault) -> &'static str
         WireFault::BadTag => "BadTag",
         WireFault::TooLong => "TooLong",
         WireFault::BadKind => "BadKind",
+        WireFault::NotUtf8 => "NotUtf8",
     }
 }
 

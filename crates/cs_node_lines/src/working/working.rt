@@ -7,7 +7,7 @@ ghost use Rattle.cs_replica.specs.Step.{Member};
 ghost use Rattle.cs_node_lines.specs.working.LineStep.{LineStep, SaysMemory};
 ghost use Rattle.cs_node_lines.specs.working.Replies.{reply_text};
 ghost use Rattle.cs_node_lines.specs.working.Texts.{heard_text};
-ghost use Rattle.cs_wire.specs.Requests.{HasShortChangeset, asked_by_owned, request_spelling};
+ghost use Rattle.cs_wire.specs.Requests.{HasShortBytes, asked_by_owned, request_spelling};
 ghost use Rattle.cs_node_lines.specs.working.Steps.{Makes, Stepped};
 
 use crate::asks::Ask;
@@ -31,7 +31,7 @@ pub(crate) const ROOM: usize = 96;
 
 /// The bytes of a request.
 fn spelled(alloc: Global, request: &RequestBuf) -> Result<Vec<u8>, Memory>
-    requires { HasShortChangeset (asked_by_owned request.now) }
+    requires { HasShortBytes (asked_by_owned request.now) }
     ensures { IfOk result (λ bytes. bytes.items ≡ request_spelling (asked_by_owned request.now)) }
 {
     let mut bytes = Vec::new(alloc);
@@ -41,7 +41,7 @@ fn spelled(alloc: Global, request: &RequestBuf) -> Result<Vec<u8>, Memory>
 
 /// A request in hex, or that memory was refused for it.
 fn asked(alloc: Global, request: &RequestBuf) -> Reply
-    requires { HasShortChangeset (asked_by_owned request.now) }
+    requires { HasShortBytes (asked_by_owned request.now) }
     ensures { (reply_text result ≡ hex_line (request_spelling (asked_by_owned request.now))) ⊎ SaysMemory (reply_text result) }
 {
     match spelled(alloc, request) {

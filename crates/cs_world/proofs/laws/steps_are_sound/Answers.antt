@@ -22,7 +22,6 @@ returns c =
         answer = c.one_told_answer.ensures;
         read = c.told_are_read.ensures;
         appended = c.appended_is_log.ensures;
-        none = c.none_widens.ensures;
         stays = c.catalog_stays.ensures;
         caught = c.caught_are_others.ensures.told;
         caught_short = c.caught_are_others.ensures.short;

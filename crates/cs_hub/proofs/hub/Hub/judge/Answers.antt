@@ -1,5 +1,5 @@
-use Rattle.std.proofs.Common.{Err, Ok, min}
-use Rattle.cs_wire.specs.Requests.{AsksCatch, AsksPull, AsksPush}
+use Rattle.std.proofs.Common.{Err, Ok, inl, min, refl}
+use Rattle.cs_wire.specs.Requests.{AsksCatch, AsksPull, AsksPush, AsksWiden}
 use Rattle.cs_store.specs.declared.log.entry.TheConstants.{MAX_ENTRIES}
 use Rattle.cs_hub.specs.declared.judged.Judged.TheVariants.{Reply}
 use Rattle.cs_hub.proofs.Answered.{read_as}
@@ -24,6 +24,11 @@ returns-in_ok-catch_told-in-Ok-Catch-clause-judged g c =
     (λ honest log shows.
     asked_so _ (min c.args.limit MAX_ENTRIES) _ log c.args.request.now (Ok (AsksCatch c.in-Ok-Catch.origin c.in-Ok-Catch.first c.in-Ok-Catch.limit)) (Reply c.in_ok-catch_told-in-Ok-Catch.field-0) (read_as _ _ _ c.in-Ok-Catch.field-0-is c.in-Ok-Catch.ensures.found)
     (c.in_ok-catch_told-in-Ok-Catch.ensures.answered honest log shows.0 shows.1))
+
+pub returns-in_ok-refuse-in-Ok-Widen-clause-judged : goal.returns-in_ok-refuse-in-Ok-Widen-clause-judged
+returns-in_ok-refuse-in-Ok-Widen-clause-judged g c = λ honest log shows.
+    asked_so _ (min c.args.limit MAX_ENTRIES) _ log c.args.request.now (Ok (AsksWiden c.in-Ok-Widen.field-0-0 c.in-Ok-Widen.field-0-1 c.in-Ok-Widen.field-0-2 c.in-Ok-Widen.field-0-3.now)) (Reply c.in_ok-refuse-in-Ok-Widen.field-0) (read_as _ _ _ c.in-Ok-Widen.field-0-is c.in-Ok-Widen.ensures.found)
+    (inl (c.in_ok-refuse-in-Ok-Widen.ensures, refl))
 
 pub returns-in-Ok-Push-clause-judged : goal.returns-in-Ok-Push-clause-judged
 returns-in-Ok-Push-clause-judged g c =
