@@ -3,10 +3,12 @@
 
 use crate::pending::{B_TO_C, INSERT_X, ONE, ONE_X, TWO, TWO_C, are_bytes, catalog};
 use cs_map_store::MapStore;
-use cs_padding::{widen_pending, widen_rows};
+use cs_padding::{widen_pending, widen_pending_with, widen_rows};
+use cs_store::edits::{PlaceEdit, PlaceEdits};
 use cs_store::{Batch, RowStore, StoreFault, Trip};
 use cs_store_cases::{Edit, commit_of, nothing};
 use cs_value::Catalog;
+use cs_widening::widen as widened_catalog;
 use std::alloc::Global;
 
 /// Rows, and pending changes.
@@ -114,6 +116,58 @@ fn widens_one(alloc: Global) -> Option<bool> {
 #[test]
 fn rows_and_changes_get_columns(rt: HostRuntime) {
     assert!(rt; widens_one(rt.alloc()) == Some(true));
+}
+
+/// The changes that are pending where these edits came before: the row 2 is no longer changed, the row 3 came, and so did one of `s`.
+const FOLDED: Held = (
+    &[(0, ONE, Some(ONE_X))],
+    &[
+        (0, ONE, Some(WIDE_INSERT)),
+        (0, TWO, None),
+        (0, THREE, Some(WIDE_INSERT)),
+        (1, ONE, Some(INSERT_X)),
+        (1, TWO, Some(INSERT_X)),
+    ],
+);
+
+/// Edits of pending changes that aren't committed yet. The last of two at one place counts.
+fn uncommitted(alloc: Global) -> Result<PlaceEdits, StoreFault> {
+    let mut edits = PlaceEdits::new(alloc);
+    edits.push(&PlaceEdit::new(0, THREE, Some(B_TO_C)))?;
+    edits.push(&PlaceEdit::new(0, TWO, None))?;
+    edits.push(&PlaceEdit::new(1, TWO, Some(INSERT_X)))?;
+    edits.push(&PlaceEdit::new(0, THREE, Some(INSERT_X)))?;
+    Ok(edits)
+}
+
+/// Commits these edits of pending changes with two columns more for `t`, behind those of what is stored.
+fn widen_with<S: RowStore>(
+    alloc: Global,
+    store: &mut S,
+    catalog: &Catalog,
+) -> Result<bool, StoreFault> {
+    let edits = uncommitted(alloc)?;
+    let Some(_) = widened_catalog(alloc, catalog, "t", 4)? else {
+        return Ok(false);
+    };
+    let pending = widen_pending_with(alloc, store, catalog, "t", 4, &edits)?;
+    store.commit(&Batch {
+        pending,
+        ..nothing(alloc)
+    })?;
+    Ok(true)
+}
+
+/// Whether edits that aren't committed yet get the columns too.
+fn widens_folded(alloc: Global) -> Option<bool> {
+    let (catalog, mut store) = begun(alloc, &NARROW)?;
+    let made = widen_with(alloc, &mut store, &catalog).ok()?;
+    Some(made && holds(&mut store, &FOLDED) == Ok(true))
+}
+
+#[test]
+fn edits_on_their_way_get_columns(rt: HostRuntime) {
+    assert!(rt; widens_folded(rt.alloc()) == Some(true));
 }
 
 /// Whether nothing is to be edited, and nothing is.
