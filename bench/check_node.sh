@@ -482,6 +482,9 @@ prints() {
 prints 'answer 99 -\nanswer 1100 -\nanswer 120000000000000001ff -\n' 'refused BadTag\nrefused Truncated\nrefused TooLong\n'
 prints "answer 15 -\nanswer $(printf '15%046d' 0) -\nanswer $(printf '15%040d00000001' 0) -\nanswer $(merged_for 0 0 0 '')ff -\nanswer $(merged_for 0 0 0 50)ff -\n" \
     'refused Truncated\nrefused Truncated\nrefused Truncated\nrefused TooLong\nrefused TooLong\n'
+# An entry that gives a table more columns, which no replica takes yet, behind one that it takes; and one of no kind.
+prints "answer $(from 0 2)$(entry 9 1 $H1$I$K1$V1)01ffffffff000000000000000100000006000000037431 -\nanswer $(from 1 1)02 -\ndump\n" \
+    'fault BadEntry after 1\nrefused BadKind\nreplica 0 version 1 pending 0 flight 0\nrow t1 1 t=v1\n'
 # Entries that aren't defined, alone and behind one that is; and a push that is said to be an entry it can't be.
 prints "edit insert t1 1 t=v1\nanswer $(others 0 $H1$D$K1$V1) -\ndump\n" \
     'ok\nfault BadEntry after 0\nreplica 0 version 0 pending 1 flight 0\nrow t1 1 t=v1\n'
