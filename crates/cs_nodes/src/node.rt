@@ -4,6 +4,7 @@ ghost use Rattle.std.specs.Prelude.{◌≡◌, ◌⊎◌, ◌≤◌, ◌<◌, �
 ghost use Rattle.cs_pending.specs.Calls.{ReadsStore, WritesStore};
 ghost use Rattle.cs_pending.specs.Edits.{IsOfStore, edit as edit_of};
 ghost use Rattle.cs_opening.specs.Fresh.{first_position};
+ghost use Rattle.cs_opening.specs.Wider.{AreWider};
 ghost use Rattle.cs_opening.specs.declared.fault.OpenFault.TheVariants as opening;
 ghost use Rattle.cs_pending.specs.Laws.{empty_view};
 ghost use Rattle.cs_pending.specs.View.{View};
@@ -20,7 +21,7 @@ ghost use Rattle.cs_value.specs.declared.catalog.TableDef.{TableDef};
 ghost use Rattle.cs_pending.specs.EditLists.{asked_of_edit, table_of_edit};
 ghost use Rattle.cs_nodes.specs.following.Pulls.{IsNextKnown, IsPulledAmong, PullsAll};
 ghost use Rattle.cs_nodes.specs.following.Pushes.{HasTaken, IsAtRest, IsSentAmong, IsSentNext, PushesOn};
-ghost use Rattle.cs_nodes.specs.following.Standing.{Begins, IsBadAt, StandsWhereHonest};
+ghost use Rattle.cs_nodes.specs.following.Standing.{Begins, IsBadAt, StandsWhereHonest, TablesGoOn};
 ghost use Rattle.cs_nodes.specs.declared.following.fault.NodeFault.TheVariants.{BadEntry, Device, Full};
 ghost use Rattle.cs_nodes.specs.declared.following.pushed.NodePush.TheVariants.{Behind, Nothing};
 ghost use Rattle.cs_nodes.specs.Nodes.{IsNode};
@@ -73,7 +74,10 @@ impl<'s, S: RowStore> Node<'s, S> {
         requires id { id < 2 ^ 32 - 1 }
         requires bare { S.contents store ≡ nothing }
         ensures pass { IfOk result (λ node. (node.pass.spine ≡ spine.now) × (node.pass.known ≡ [])) }
-        ensures catalog { IfOk result (λ node. node.replica.catalog ≡ catalog.now) }
+
+        // Its tables are the handed ones. A store that isn't honest may be opened by wider ones.
+        ensures catalog { IfOk result (λ node. S.honest node.replica.store → node.replica.catalog ≡ catalog.now) }
+        ensures wider { IfOk result (λ node. AreWider catalog.now node.replica.catalog) }
         ensures fresh { IfOk result (λ node. S.honest node.replica.store
             → (node.replica.position ≡ first_position id) × Shows S.contents node.replica empty_view) }
 
@@ -220,20 +224,22 @@ impl<'s, S: RowStore> Node<'s, S> {
         // Those before the one at which it ended were pulled, one after another, of what is known as it ends.
         ensures pulled { S.honest self.new.replica.store → (before : View) → Shows S.contents self.old.replica before
             → PullsAll P.picks self.old.replica.catalog self.new.pass.known result self.old.replica.position before picker.old
-            self.new.replica.position (S.contents self.new.replica.store) picker.new }
+            self.new.replica.catalog self.new.replica.position (S.contents self.new.replica.store) picker.new }
 
         // Each in a commit of its own. Those that were taken stay, however it ended. A stop then leaves what the store holds, or, at an
         // `Err`, that with the next entry taken too. Where nothing was written, it may also leave what it could before.
         ensures writes { WritesInTurn S.RowStore (IsOk result) (result ≡ Err Device)
             (ShowsSomeAt self.old.replica.catalog self.old.replica.position (S.contents self.old.replica.store))
             (IsPulledAmong P.picks self.old.replica.catalog self.new.pass.known self.old.replica.position (S.contents self.old.replica.store) picker.old)
-            (IsNextKnown P.picks self.old.replica.catalog self.new.pass.known self.new.replica.position (S.contents self.new.replica.store))
+            (IsNextKnown P.picks self.new.replica.catalog self.new.pass.known self.new.replica.position (S.contents self.new.replica.store))
             self.old.replica.store self.new.replica.store }
 
         // At `Ok` it has come to the last that is known.
         ensures level { IfOk result (λ count. (self.new.replica.position.version ≡ length self.new.pass.known)
             × (self.new.replica.position.version ≡ self.old.replica.position.version + count)) }
-        ensures catalog { self.new.replica.catalog ≡ self.old.replica.catalog }
+
+        // The tables are those that the entries leave which were taken.
+        ensures catalog { TablesGoOn self.new.pass.known self.old.replica.catalog self.old.replica.position.version self.new.replica.catalog self.new.replica.position.version }
 
         // An entry that is told to be bad isn't defined on the tables that those before it make.
         ensures bad { result ≡ Err BadEntry → S.honest self.new.replica.store
@@ -265,7 +271,7 @@ impl<'s, S: RowStore> Node<'s, S> {
         // What is told, what it has made of the replica, and what the pass knows then.
         ensures pushed { S.honest self.new.replica.store → (before : View) → Shows S.contents self.old.replica before
             → PushesOn P.picks self.old.replica.catalog self.old.pass.known self.old.replica.position before picker.old spine.now.cap result
-            self.new.pass.known self.new.replica.position (S.contents self.new.replica.store) picker.new }
+            self.new.pass.known self.new.replica.catalog self.new.replica.position (S.contents self.new.replica.store) picker.new }
 
         // The push, and what comes of it, are commits of their own. What was made stays, however it ended, at `Full` too. A stop then
         // leaves what the store holds, or, where no entry was taken, that with one commit more. That commit makes the push or takes
@@ -273,7 +279,7 @@ impl<'s, S: RowStore> Node<'s, S> {
         ensures writes { WritesInTurn S.RowStore (HasTaken result) (result ≡ Err Device)
             (ShowsSomeAt self.old.replica.catalog self.old.replica.position (S.contents self.old.replica.store))
             (IsSentAmong P.picks self.old.replica.catalog self.old.replica.position (S.contents self.old.replica.store) picker.old)
-            (IsSentNext P.picks self.old.replica.catalog self.new.pass.known self.new.replica.position (S.contents self.new.replica.store))
+            (IsSentNext P.picks self.new.replica.catalog self.new.pass.known self.new.replica.position (S.contents self.new.replica.store))
             self.old.replica.store self.new.replica.store }
 
         // Nothing is told first, then that it is behind; and nothing has changed then.
@@ -281,7 +287,9 @@ impl<'s, S: RowStore> Node<'s, S> {
         ensures behind { (IsAtRest self.old.replica.position → ⊥) → self.old.replica.position.version < length self.old.pass.known
             → (result ≡ Ok Behind) × (self.new ≡ self.old) }
         ensures full { result ≡ Err Full → length self.old.pass.known ≡ spine.now.cap }
-        ensures catalog { self.new.replica.catalog ≡ self.old.replica.catalog }
+
+        // The tables are those that the entries leave which were taken.
+        ensures catalog { TablesGoOn self.new.pass.known self.old.replica.catalog self.old.replica.position.version self.new.replica.catalog self.new.replica.position.version }
 
         // An entry that is told to be bad isn't defined on the tables that those before it make.
         ensures bad { result ≡ Err BadEntry → S.honest self.new.replica.store

@@ -16,6 +16,8 @@ mod memory;
 #[cfg(test)]
 mod moving;
 #[cfg(test)]
+mod opening;
+#[cfg(test)]
 mod pulling;
 #[cfg(test)]
 mod refusing;

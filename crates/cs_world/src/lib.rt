@@ -21,7 +21,7 @@ mod reading;
 mod turning;
 mod world;
 
-pub use event::{Event, WishList};
+pub use event::{Event, Wider, WishList};
 pub use fault::WorldFault;
 pub use outcome::Outcome;
 pub use world::World;

@@ -10,7 +10,7 @@ ghost use Rattle.cs_node_lines.specs.working.Replies.{reply_text};
 ghost use Rattle.cs_text.specs.Text.{line as lined};
 
 use crate::following::next::{Next, next_reply};
-use crate::working::{NodeFault, Reply, put_text};
+use crate::working::{NodeFault, Reply, in_order, put_text};
 use cs_lines::{ASKS, LineInput, LineOutput};
 use cs_replica::Replica;
 use cs_store::RowStore;
@@ -39,8 +39,7 @@ fn follow_next<S: RowStore, R: LineInput, W: LineOutput>(
     line: &mut Vec<u8>,
     writer: &mut W,
 ) -> Result<bool, NodeFault>
-    requires { replica.old.catalog ≡ catalog.now }
-    ensures told { FollowsNext S.RowStore result (R.failed reader.new) (W.failed writer.new) (ended (R.remaining reader.old)) (ended (R.remaining reader.new))
+    ensures told { FollowsNext S.RowStore catalog.now result (R.failed reader.new) (W.failed writer.new) (ended (R.remaining reader.old)) (ended (R.remaining reader.new))
         (W.contents writer.old) (W.contents writer.new) replica.old replica.new }
     ensures sent { OnOk result (W.sent writer.old → W.sent writer.new) }
 {
@@ -65,14 +64,14 @@ fn follow<S: RowStore, R: LineInput, W: LineOutput>(
     reader: &mut R,
     writer: &mut W,
 ) -> Result<(), NodeFault>
-    requires { replica.old.catalog ≡ catalog.now }
-    ensures told { FollowsAll S.RowStore result (R.failed reader.new) (W.failed writer.new) (ended (R.remaining reader.old)) (ended (R.remaining reader.new))
+    ensures told { FollowsAll S.RowStore catalog.now result (R.failed reader.new) (W.failed writer.new) (ended (R.remaining reader.old)) (ended (R.remaining reader.new))
         (W.contents writer.old) (W.contents writer.new) replica.old replica.new }
     ensures sent { OnOk result (W.sent writer.old → W.sent writer.new) }
 {
     cs_lines::laws::lines_taken();
     let mut line = Vec::new(alloc);
     for _asked in 0..ASKS {
+        in_order(replica);
         match follow_next(alloc, replica, catalog, reader, &mut line, writer) {
             Ok(true) => {}
             Ok(false) => return Ok(()),
@@ -106,10 +105,10 @@ pub fn follow_on<S: RowStore, R: LineInput, W: LineOutput>(
         (R.failed reader.new) (W.failed writer.new) (W.contents writer.old) (W.contents writer.new) result.0 }
     ensures sent { OnOk result.0 (W.sent writer.old → W.sent writer.new) }
 {
-    let _tables = catalog.tables();
     match Replica::open(alloc, store, catalog, id) {
         Ok(mut replica) => {
             replica.shown();
+            in_order(&replica);
             let ended = follow(alloc, &mut replica, catalog, reader, writer);
             (ended, replica.close())
         }

@@ -1,6 +1,7 @@
 //! Nodes that run their plans, each in a thread of its own, and their ends.
 
 ghost use Rattle.std.specs.Prelude.{◌≡◌, ◌≢◌, ◌≤◌, ◌<◌, ◌^◌, ◌↔◌, [], All, IfOk, IsErrOf, Ok, map, vec_capacity, vec_len};
+ghost use Rattle.cs_nodes.specs.Nodes.{IsOfOpening};
 ghost use Rattle.cs_nodes.specs.plans.Ends.{AreEnds, IsEnd};
 
 use crate::Node;
@@ -99,9 +100,9 @@ pub fn run_nodes<'s, R: Threads + Sync, P: Port + Send + Drop>(
     // There is an end for each plan, in their order: what its calls made of a new node, one behind another.
     ensures ends { IfOk result (λ ends. AreEnds catalog.now spine.now plans.items ends.items) }
 
-    // Each node is of the spine and has the catalog, so that any two of them can be asked whether they meet.
+    // Each node is of the spine and began with the catalog, so that any two of them can be asked whether they meet.
     ensures spine { IfOk result (λ ends. All (λ end. end.node.pass.spine ≡ spine.now) ends.items) }
-    ensures catalog { IfOk result (λ ends. All (λ end. end.node.replica.catalog ≡ catalog.now) ends.items) }
+    ensures catalog { IfOk result (λ ends. All (λ end. IsOfOpening catalog.now end.node) ends.items) }
     ensures uneven { IsErrOf result RunFault.Uneven ↔ (vec_len ports ≢ vec_len plans) }
 {
     if ports.len() != plans.len() {
