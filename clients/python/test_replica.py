@@ -170,7 +170,7 @@ class Tables(Case):
             till.insert("stock", "glue", 4, "")
         till.close()
         self.refuses("Mismatch", self.till, 2, name="1.db")
-        self.refuses("Mismatch", self.till, 1, {"stock": ["article*", "pieces"]})
+        self.refuses("Mismatch", self.till, 1, {"stock": ["article*", "pieces*", "note"]})
         self.refuses("Device", self.till, 1, name="nowhere/1.db")
         for wrong in (1 << 32, STOCK), (3, {"stock": ["no", "key"]}):
             with self.assertRaises(Ended):

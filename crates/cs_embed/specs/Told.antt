@@ -19,7 +19,7 @@ module _ {S : Type 0} (g : Ghosts S) (tables : List TableDef) where
     pub last : S
     pub honest : g.honest last
     pub each : List (List ℕ)
-    pub worked : Worked g tables id (LineStep tables) store last asks each
+    pub worked : Worked g tables id LineStep store last asks each
     pub texts_are : texts ≡ printed each
     pub left_is : KeepStore left (g.contents last)
 

@@ -8,6 +8,7 @@ pub mod Merged
 pub mod Decided
 pub mod Whole
 pub mod Committed
+pub mod Widened
 pub mod Gathered
 pub mod Called
 pub mod OneTaking
@@ -21,3 +22,4 @@ pub mod TakenContents
 pub mod TakenSome
 pub mod TakenStored
 pub mod NextShown
+pub mod WideStored

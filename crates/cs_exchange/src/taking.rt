@@ -5,9 +5,10 @@
 //! to a later version than the next: what entries do together.
 //! `flight` makes what is under way pending over the log's rows; `reading` reads the places of the entry, and tells whether each
 //! change is defined on the log's rows; `deciding` asks a picker at each change that conflicts with the own row, and merges the
-//! rows; `gathering` does all this for an entry, and `committing` commits the gathered edits.
-//! It stands on positions (`cs_pending::position`), pending changes (`cs_pending`), conflicts and pickers (`cs_conflict`), and on
-//! the merge and its diamond (`cs_rebaser`).
+//! rows; `gathering` does all this for an entry, and `committing` commits the gathered edits. `widening` takes an entry that widens a
+//! table: what is under way becomes pending, and rows and pending changes get the new columns, in one commit.
+//! It stands on positions (`cs_pending::position`), pending changes (`cs_pending`), conflicts and pickers (`cs_conflict`), on
+//! the merge and its diamond (`cs_rebaser`), and on rows that get more columns (`cs_padding`).
 //! Its tests stand in `cs_replica_tests`, through `Replica`.
 
 mod asking;
@@ -21,6 +22,8 @@ mod reading;
 mod rows;
 mod site;
 mod taking;
+mod widening;
 
 pub use fault::TakeFault;
 pub use taking::{take_changes, take_changes_to};
+pub use widening::take_widen;

@@ -9,7 +9,9 @@ use Rattle.cs_store.specs.declared.log.entry.LogEntry.{LogEntry}
 use Rattle.cs_normalising.specs.NormalFormOf.{IsNormalFormOf}
 use Rattle.cs_hub.specs.judgement.Hub.{HubState, judging, with_entry}
 use Rattle.cs_hub.specs.judgement.Judged.{hub_of}
+use Rattle.cs_hub.specs.judgement.Laws.{WidenedAgain}
 use Rattle.cs_hub.specs.judgement.Pushes.{IsRepeat, Push, Pushes, entry_of_push}
+use Rattle.cs_hub.specs.judgement.Widens.{IsWidenRepeat, WidenAsked, Widens, entry_of_widen}
 use Rattle.cs_hub.specs.declared.judgement.fault.HubFault.{HubFault}
 use Rattle.cs_hub.specs.declared.judgement.push.Pushed.{Pushed}
 use Rattle.cs_hub.specs.declared.judgement.push.Pushed.TheVariants as pushed
@@ -21,6 +23,7 @@ use Rattle.cs_wire.specs.declared.push_head.PushHead.{PushHead}
 use Rattle.cs_wire.specs.declared.short_answer.ShortAnswer.TheVariants.{Stale}
 use Rattle.cs_hub.specs.Laws.{ServedAgain, StaleBehindAnother}
 use Rattle.cs_hub.specs.Serves.{AnswersAsked, Outcome, TakesBytes, TakesGroups}
+use Rattle.cs_hub.proofs.JudgementLemmas.Widened.{kept_or_taken}
 
 at_end : (before rest : List LogEntry) (entry : LogEntry) → slice_get (before ++ entry ∷ rest) (length before) ≡ Some entry
 at_end [] rest entry = refl
@@ -91,17 +94,17 @@ bytes_again : LongerLog → (limit : ℕ) (old new : HubState) (head : PushHead)
 bytes_again longer limit old new head changeset outcome (inl (f, at, w, a, s)) = inl (f, at, w, a, refl)
 bytes_again longer limit old new head changeset outcome (inr (groups, fits, is, p)) = inr (groups, fits, is, groups_again longer limit old new head groups outcome p)
 
-asked_again : LongerLog → (limit : ℕ) (old new : HubState) (asked : Result Asked WireFault) (answer : List ℕ) → AnswersAsked limit old asked answer new → AnswersAsked limit new asked answer new
-asked_again longer limit old new (Err fault) answer (a, s) = (a, refl)
-asked_again longer limit old new (Ok (AsksPull first count)) answer (a, s) =
+asked_again : LongerLog → WidenedAgain → (limit : ℕ) (old new : HubState) (asked : Result Asked WireFault) (answer : List ℕ) → AnswersAsked limit old asked answer new → AnswersAsked limit new asked answer new
+asked_again longer again limit old new (Err fault) answer (a, s) = (a, refl)
+asked_again longer again limit old new (Ok (AsksPull first count)) answer (a, s) =
     subst (λ (h : HubState). AnswersAsked limit h (Ok (AsksPull first count)) answer new) (sym s) (a, s)
-asked_again longer limit old new (Ok (AsksCatch asker first count)) answer (a, s) =
+asked_again longer again limit old new (Ok (AsksCatch asker first count)) answer (a, s) =
     subst (λ (h : HubState). AnswersAsked limit h (Ok (AsksCatch asker first count)) answer new) (sym s) (a, s)
-asked_again longer limit old new (Ok (AsksWiden number base width table)) answer (a, s) = (a, refl)
-asked_again longer limit old new (Ok (AsksPush head changeset)) answer (outcome, p, a) = (outcome, bytes_again longer limit old new head changeset outcome p, a)
+asked_again longer again limit old new (Ok (AsksWiden number base width table)) answer (outcome, (told, p, is), a) = (outcome, (told, again limit old new (record { number = number; base = base; table = table; width = width }) told p, is), a)
+asked_again longer again limit old new (Ok (AsksPush head changeset)) answer (outcome, p, a) = (outcome, bytes_again longer limit old new head changeset outcome p, a)
 
-pub served_again : LongerLog → ServedAgain
-served_again longer limit old new request answer (asked, reads, answers) = (asked, reads, asked_again longer limit old new asked answer answers)
+pub served_again : LongerLog → WidenedAgain → ServedAgain
+served_again longer again limit old new request answer (asked, reads, answers) = (asked, reads, asked_again longer again limit old new asked answer answers)
 
 -- ---- where another entry came
 
@@ -166,12 +169,28 @@ module _ (limit : ℕ) (opening : List TableDef) (log more : List LogEntry) (ent
       let there = subst (λ (t : List TableDef). IsNormalFormOf t groups changes) (sym (judged_alike longer opening log (held ∷ more) head.base last)) form in
       inr (groups, fits, is, inr (changes, there, (Ok (pushed.Stale (length (log ++ held ∷ more))), stale_push push told p, refl)))
 
+  -- so are new columns
+  widen_not_there : (asked : WidenAsked) → asked.base ≡ length log → entry ≡ entry_of_widen asked → IsWidenRepeat (log ++ held ∷ more) asked → ⊥
+  widen_not_there asked last is repeat =
+      another (same_Some held entry (sym (at_end log more held) ∙ ap (λ (n : ℕ). slice_get (log ++ held ∷ more) n) (sym last) ∙ repeat ∙ ap (λ (e : LogEntry). Some e) (sym is)))
+
+  stale_widen : (asked : WidenAsked) (told : Result Pushed HubFault) → Widens limit Before asked told With → Widens limit Long asked (Ok (pushed.Stale (length (log ++ held ∷ more)))) Long
+  stale_widen asked told p =
+      elim (kept_or_taken limit Before With asked told p) [
+        | inl kept ↦ absurd (another_log opening log entry kept)
+        | inr (last, may, grown, is) ↦
+            let within : asked.base < length (log ++ held ∷ more) = omega (arith, last, length-append log (held ∷ more)) in
+            inr (λ above. omega (arith, above, within), inr (widen_not_there asked last (last_is (entry_of_widen asked) grown), inl (within, (refl, refl))))
+      ]
+
   pub stale_asked : LongerLog → (asked : Result Asked WireFault) (answer : List ℕ) → AnswersAsked limit Before asked answer With
       → AnswersAsked limit Long asked (answer_spelling (Short (Stale (length (log ++ held ∷ more))))) Long
   stale_asked longer (Err fault) answer (a, s) = absurd (another_log opening log entry s)
   stale_asked longer (Ok (AsksPull first count)) answer (a, s) = absurd (another_log opening log entry s)
   stale_asked longer (Ok (AsksCatch asker first count)) answer (a, s) = absurd (another_log opening log entry s)
-  stale_asked longer (Ok (AsksWiden number base width table)) answer (a, s) = absurd (another_log opening log entry s)
+  stale_asked longer (Ok (AsksWiden number base width table)) answer (outcome, (told, p, o), a) =
+      let asked : WidenAsked = record { number = number; base = base; table = table; width = width } in
+      (Ok (pushed.Stale (length (log ++ held ∷ more))), (Ok (pushed.Stale (length (log ++ held ∷ more))), stale_widen asked told p, refl), refl)
   stale_asked longer (Ok (AsksPush head changeset)) answer (outcome, p, a) = (Ok (pushed.Stale (length (log ++ held ∷ more))), stale_bytes longer head changeset outcome p, refl)
 
 pub stale_behind_another : LongerLog → StaleBehindAnother

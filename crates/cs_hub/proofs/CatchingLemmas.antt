@@ -1,3 +1,4 @@
+pub mod Plain
 pub mod Leads
 pub mod Runs
 pub mod Taken

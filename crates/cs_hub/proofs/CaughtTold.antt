@@ -14,17 +14,17 @@ use Rattle.cs_wire.specs.Numbers.{eight_bytes, four_bytes}
 use Rattle.cs_wire.specs.Told.{told_entry}
 use Rattle.cs_wire.specs.declared.answer.Answer.TheVariants.{Entries}
 use Rattle.cs_hub.specs.catching.Catches.{Catches}
-use Rattle.cs_hub.specs.declared.catching.caught.Caught.TheVariants.{Own}
+use Rattle.cs_hub.specs.declared.catching.caught.Caught.TheVariants.{Alone}
 use Rattle.cs_hub.specs.judgement.Judged.{hub_of}
 use Rattle.cs_hub.specs.Serves.{TellsCaught}
 use Rattle.cs_hub.proofs.Answered.{cut_entries}
 
 -- its own entry
 pub own_told : {E : Type 0} (opening : List TableDef) (log : List LogEntry) (asker first limit count : ℕ) (result : Result (Vec ℕ Global) E) → first ≤ length log → count ≡ min 1 (length log - first)
-    → Catches (catalog_at opening log first) asker limit (drop first log) Own → IfOk result (λ answer. answer.items ≡ answer_spelling (Entries first (map told_entry (take count (drop first log)))))
+    → Catches (catalog_at opening log first) asker limit (drop first log) Alone → IfOk result (λ answer. answer.items ≡ answer_spelling (Entries first (map told_entry (take count (drop first log)))))
     → IfOk result (λ answer. TellsCaught (hub_of opening log) asker first limit answer.items)
 own_told opening log asker first limit count (Ok answer) within cut catches is =
-    (Own, catches, is ∙ ap (λ (es : List LogEntry). answer_spelling (Entries first (map told_entry es))) (cut_entries log first 1 count within cut))
+    (Alone, catches, is ∙ ap (λ (es : List LogEntry). answer_spelling (Entries first (map told_entry es))) (cut_entries log first 1 count within cut))
 own_told opening log asker first limit count (Err fault) within cut catches is = tt
 
 -- a changeset behind the numbers before it

@@ -1,23 +1,20 @@
 -- Each request has an answer.
-use Rattle.std.proofs.Common.{◌≡◌, inl, inr, ℕ, List, [], ◌∷◌, drop, length, map, min, take, Result, Ok, Err, refl, sym, ap, subst, ◌∙◌}
+use Rattle.std.proofs.Common.{inl, inr, ℕ, List, [], ◌∷◌, drop, length, map, min, take, Result, Ok, Err, refl, subst}
 use Rattle.std.specs.List.{All}
-use Rattle.std.proofs.Math.Seq.{take-length}
 use Rattle.std.proofs.lemmas.Bool.{cases_lt}
-use Rattle.std.proofs.lemmas.List.Elements.{All-drop, All-from_recursion}
+use Rattle.std.proofs.lemmas.List.Elements.{All-from_recursion, recursion_from_All}
 use Rattle.cs_value.specs.declared.catalog.TableDef.{TableDef}
 use Rattle.cs_change.specs.Spelling.{FitsChangeset}
 use Rattle.cs_change.specs.declared.group.Group.{Group}
 use Rattle.cs_normalising.specs.Laws.{FormOrUnfit}
 use Rattle.cs_changeset.specs.Laws.{ChangesetOrFault}
 use Rattle.cs_varint.specs.Bytes.{AreBytes, bytes_behind}
-use Rattle.cs_normal.specs.Normal.{FitsCatalog}
-use Rattle.cs_store.specs.log.Entry.{entry_changes}
-use Rattle.cs_store.specs.log.Laws.{CatalogStays, CatalogsAreTables}
-use Rattle.cs_store.specs.log.Log.{IsLog, catalog_at, catalog_of}
+use Rattle.cs_store.specs.log.Laws.{CatalogNext, CatalogsAreTables}
+use Rattle.cs_store.specs.log.Log.{IsLog, catalog_at}
 use Rattle.cs_store.specs.declared.log.entry.LogEntry.{LogEntry}
 use Rattle.cs_hub.specs.catching.Laws.{CatchHasAnswer}
 use Rattle.cs_hub.specs.judgement.Hub.{HubState, entries_from, judging}
-use Rattle.cs_hub.specs.judgement.Laws.{IsOfHub, PushHasAnswer}
+use Rattle.cs_hub.specs.judgement.Laws.{IsOfHub, PushHasAnswer, WidenHasAnswer}
 use Rattle.cs_hub.specs.declared.judgement.fault.HubFault.TheVariants.{Ahead}
 use Rattle.cs_wire.specs.Laws.{AsksSomething}
 use Rattle.cs_wire.specs.Requests.{Asked, AsksCatch, AsksPush, AsksPull, AsksWiden, ReadsRequest, push_numbers, push_tag}
@@ -26,13 +23,11 @@ use Rattle.cs_wire.specs.Numbers.{eight_bytes, four_bytes}
 use Rattle.cs_wire.specs.Told.{told_entry}
 use Rattle.cs_wire.specs.declared.answer.Answer.TheVariants.{Entries}
 use Rattle.cs_wire.specs.declared.fault.WireFault.{WireFault}
-use Rattle.cs_wire.specs.declared.fault.WireFault.TheVariants.{BadTag}
 use Rattle.cs_wire.specs.declared.push_head.PushHead.{PushHead}
 use Rattle.cs_hub.specs.Laws.{RequestHasAnswer}
-use Rattle.cs_hub.specs.Serves.{AnswersAsked, Outcome, TakesBytes, TakesGroups, caught_answer, or_refusal, push_answer, refused}
+use Rattle.cs_hub.specs.Serves.{AnswersAsked, Outcome, TakesBytes, TakesGroups, caught_answer, or_refusal, push_answer, refused, widen_head}
 use Rattle.cs_hub.specs.declared.refusal.Refusal.TheVariants.{NoRequest, NoChangeset, NoForm, ByHub}
-use Rattle.cs_hub.proofs.CatchingLemmas.Leads.{at_each}
-use Rattle.cs_hub.proofs.CatchingLemmas.Runs.{Fits}
+use Rattle.cs_hub.proofs.CatchingLemmas.Plain.{Fits, IsPlain, plain_fit}
 
 -- the laws below
 pub record Found : Type 0 where
@@ -42,7 +37,8 @@ pub record Found : Type 0 where
   pub read : ChangesetOrFault
   pub decided : FormOrUnfit
   pub catalogs : CatalogsAreTables
-  pub stays : CatalogStays
+  pub next : CatalogNext
+  pub widens : WidenHasAnswer
 
 abbrev Takes : ℕ → HubState → PushHead → (Outcome → HubState → Type 0) → Type 0
 Takes limit old head holds = (outcome : Outcome) × (new : HubState) × holds outcome new
@@ -73,14 +69,11 @@ small_changeset head size bytes all =
     (bytes_behind (eight_bytes head.number) _
     (bytes_behind (four_bytes head.origin) _ (bytes_behind (push_tag ∷ []) _ all))))
 
--- the entries of a log change the tables that it opened with
-all_fit : CatalogStays → (opening : List TableDef) (log : List LogEntry) → IsLog opening log → All (Fits opening) log
-all_fit stays opening log is =
-    All-from_recursion (Fits opening) log (at_each (Fits opening) log (λ version entry there.
-    let next = is version entry there in
-    let front = take version log in
-    let same : catalog_at opening front (length front) ≡ opening = ap (catalog_of opening) (take-length front) ∙ stays opening log version is in
-    (next.normal, subst (λ (t : List TableDef). FitsCatalog t (entry_changes entry)) same next.defined.0)))
+-- as long as none widens a table, the entries of a log from a version on change the tables there
+all_fit : CatalogNext → (opening : List TableDef) (log : List LogEntry) → IsLog opening log → (first count : ℕ) → All IsPlain (take count (drop first log)) → All (Fits (catalog_at opening log first)) (take count (drop first log))
+all_fit law opening log is first count plain =
+    All-from_recursion (Fits (catalog_at opening log first)) (take count (drop first log))
+    (plain_fit law opening log is count first (recursion_from_All IsPlain (take count (drop first log)) plain))
 
 of_asked : Found → (limit : ℕ) (old : HubState) (request : List ℕ) (asked : Result Asked WireFault) → IsOfHub old → AreBytes request → ReadsRequest request asked → (answer : List ℕ) × (new : HubState) × AnswersAsked limit old asked answer new
 of_asked laws limit old request (Err fault) hub small asks = (refused (NoRequest fault), old, (refl, refl))
@@ -89,15 +82,15 @@ of_asked laws limit old request (Ok (AsksPull first count)) hub small asks =
       | inl above ↦ (refused (ByHub Ahead), old, (inl (above, refl), refl))
       | inr within ↦ (answer_spelling (Entries first (map told_entry (entries_from first count old.log))), old, (inr (within, refl), refl))
     ]
-of_asked laws limit old request (Ok (AsksWiden number base width table)) hub small asks = (refused (NoRequest BadTag), old, (refl, refl))
+of_asked laws limit old request (Ok (AsksWiden number base width table)) hub small asks =
+    let told = laws.widens limit old (record { number = number; base = base; table = table; width = width }) in
+    (answer_spelling (push_answer (widen_head number base) (or_refusal told.0)), told.1, (or_refusal told.0, (told.0, told.2, refl), refl))
 of_asked laws limit old request (Ok (AsksCatch asker first count)) hub small asks =
     elim (cases_lt (length old.log) first) [
       | inl above ↦ (refused (ByHub Ahead), old, (inl (above, refl), refl))
       | inr within ↦
           let tables = catalog_at old.opening old.log first in
-          let same : tables ≡ old.opening = laws.stays old.opening old.log first hub.log in
-          let fit = subst (λ (t : List TableDef). All (Fits t) (drop first old.log)) (sym same) (All-drop (Fits old.opening) first old.log (all_fit laws.stays old.opening old.log hub.log)) in
-          let told = laws.catches tables asker count (drop first old.log) (laws.catalogs old.opening old.log first hub.tables hub.log) fit in
+          let told = laws.catches tables asker count (drop first old.log) (laws.catalogs old.opening old.log first hub.tables hub.log) (all_fit laws.next old.opening old.log hub.log first) in
           (answer_spelling (caught_answer asker first old.log told.0), old, (inr (within, (told.0, told.1, refl)), refl))
     ]
 of_asked laws limit old request (Ok (AsksPush head changeset)) hub small asks =

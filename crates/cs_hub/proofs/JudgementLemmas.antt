@@ -1,3 +1,4 @@
 pub mod Decided
 pub mod Once
 pub mod Existence
+pub mod Widened

@@ -1,3 +1,4 @@
+pub mod Entries
 pub mod Existence
 pub mod OneService
 pub mod OneHubRun

@@ -5,3 +5,4 @@ pub mod Listed
 pub mod Counted
 pub mod Whole
 pub mod HubLaws
+pub mod Followed

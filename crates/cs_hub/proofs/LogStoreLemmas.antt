@@ -1,3 +1,4 @@
+pub mod Versions
 pub mod OneLog
 pub mod Appended
 pub mod First

@@ -9,7 +9,7 @@ use Rattle.cs_normal.specs.Normal.{IsNormalChangeset}
 use Rattle.cs_store.specs.log.Laws.{AppendedIsLog, EmptyIsLog}
 use Rattle.cs_store.specs.log.Log.{IsNextEntry}
 use Rattle.cs_hub.specs.judgement.Hub.{HubState, fresh, with_entry}
-use Rattle.cs_hub.specs.judgement.Laws.{IsOfHub}
+use Rattle.cs_hub.specs.judgement.Laws.{IsOfHub, WidensKeepLog}
 use Rattle.cs_hub.specs.judgement.Pushes.{CanFollow, Push, Pushes, entry_of_push}
 use Rattle.cs_hub.specs.declared.judgement.fault.HubFault.{HubFault}
 use Rattle.cs_hub.specs.declared.judgement.push.Pushed.{Pushed}
@@ -46,30 +46,30 @@ changeset_keeps : AppendedIsLog → (limit : ℕ) (old new : HubState) (head : P
 changeset_keeps law limit old new head changeset outcome (inl (f, at, w, a, s)) = same_hub old new s
 changeset_keeps law limit old new head changeset outcome (inr (groups, fits, is, p)) = groups_keep law limit old new head groups outcome p
 
-asked_keeps : AppendedIsLog → (limit : ℕ) (old new : HubState) (asked : Result Asked WireFault) (answer : List ℕ) → AnswersAsked limit old asked answer new → IsOfHub old → IsOfHub new
-asked_keeps law limit old new (Err fault) answer (a, s) = same_hub old new s
-asked_keeps law limit old new (Ok (AsksPull first count)) answer (a, s) = same_hub old new s
-asked_keeps law limit old new (Ok (AsksCatch asker first count)) answer (a, s) = same_hub old new s
-asked_keeps law limit old new (Ok (AsksWiden number base width table)) answer (a, s) = same_hub old new s
-asked_keeps law limit old new (Ok (AsksPush head changeset)) answer (some, p, a) = changeset_keeps law limit old new head changeset some p
+asked_keeps : AppendedIsLog → WidensKeepLog → (limit : ℕ) (old new : HubState) (asked : Result Asked WireFault) (answer : List ℕ) → AnswersAsked limit old asked answer new → IsOfHub old → IsOfHub new
+asked_keeps law columns limit old new (Err fault) answer (a, s) = same_hub old new s
+asked_keeps law columns limit old new (Ok (AsksPull first count)) answer (a, s) = same_hub old new s
+asked_keeps law columns limit old new (Ok (AsksCatch asker first count)) answer (a, s) = same_hub old new s
+asked_keeps law columns limit old new (Ok (AsksWiden number base width table)) answer (some, (told, p, is), a) = λ hub. columns limit old new (record { number = number; base = base; table = table; width = width }) told hub p
+asked_keeps law columns limit old new (Ok (AsksPush head changeset)) answer (some, p, a) = changeset_keeps law limit old new head changeset some p
 
-decoded_keeps : AppendedIsLog → (limit : ℕ) (old new : HubState) (decoded : Result (List ℕ) _) (answer : List ℕ) → AnswersDecoded (Serves limit) old decoded answer new → IsOfHub old → IsOfHub new
-decoded_keeps law limit old new (Ok request) answer (asked, asks, p) = asked_keeps law limit old new asked answer p
-decoded_keeps law limit old new (Err fault) answer (a, s) = same_hub old new s
+decoded_keeps : AppendedIsLog → WidensKeepLog → (limit : ℕ) (old new : HubState) (decoded : Result (List ℕ) _) (answer : List ℕ) → AnswersDecoded (Serves limit) old decoded answer new → IsOfHub old → IsOfHub new
+decoded_keeps law columns limit old new (Ok request) answer (asked, asks, p) = asked_keeps law columns limit old new asked answer p
+decoded_keeps law columns limit old new (Err fault) answer (a, s) = same_hub old new s
 
-answer_keeps : AppendedIsLog → (limit : ℕ) (old new : HubState) (line answer : List ℕ) → Answers (Serves limit) IsSame old line answer new → IsOfHub old → IsOfHub new
-answer_keeps law limit old new line answer (inl served) = decoded_keeps law limit old new _ answer served
-answer_keeps law limit old new line answer (inr (a, inl s)) = same_hub old new s
-answer_keeps law limit old new line answer (inr (a, inr s)) = same_hub old new s
+answer_keeps : AppendedIsLog → WidensKeepLog → (limit : ℕ) (old new : HubState) (line answer : List ℕ) → Answers (Serves limit) IsSame old line answer new → IsOfHub old → IsOfHub new
+answer_keeps law columns limit old new line answer (inl served) = decoded_keeps law columns limit old new _ answer served
+answer_keeps law columns limit old new line answer (inr (a, inl s)) = same_hub old new s
+answer_keeps law columns limit old new line answer (inr (a, inr s)) = same_hub old new s
 
-along : AppendedIsLog → OneService → (limit : ℕ) (old : HubState) (lines : List (List ℕ)) → IsOfHub old → HasOneAnswerAlong (Serves limit) IsSame old lines
-along law once limit old [] is = tt
-along law once limit old (line ∷ lines) is = (
+along : AppendedIsLog → WidensKeepLog → OneService → (limit : ℕ) (old : HubState) (lines : List (List ℕ)) → IsOfHub old → HasOneAnswerAlong (Serves limit) IsSame old lines
+along law columns once limit old [] is = tt
+along law columns once limit old (line ∷ lines) is = (
   λ request one other new next first second. once limit old new next request one other is first second,
-  λ answer mid served. along law once limit mid lines (answer_keeps law limit old mid line answer served is),
+  λ answer mid served. along law columns once limit mid lines (answer_keeps law columns limit old mid line answer served is),
 )
 
-pub one_hub_run : AppendedIsLog → EmptyIsLog → OneService → (limit : ℕ) → OneHubRun limit
-one_hub_run law begins once limit tables new last lines ones others are here there first second =
+pub one_hub_run : AppendedIsLog → WidensKeepLog → EmptyIsLog → OneService → (limit : ℕ) → OneHubRun limit
+one_hub_run law columns begins once limit tables new last lines ones others are here there first second =
     once_run.one_run (Serves limit) IsSame (fresh tables) new last lines ones others
-    (along law once limit (fresh tables) lines (record { tables = are; log = begins tables })) here there first second
+    (along law columns once limit (fresh tables) lines (record { tables = are; log = begins tables })) here there first second

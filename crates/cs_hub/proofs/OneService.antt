@@ -12,14 +12,15 @@ use Rattle.cs_hub.specs.declared.catching.caught.Caught.{Caught}
 use Rattle.cs_store.specs.log.Laws.{CatalogsAreTables}
 use Rattle.cs_store.specs.log.Log.{catalog_at}
 use Rattle.cs_hub.specs.judgement.Hub.{HubState, judging}
-use Rattle.cs_hub.specs.judgement.Laws.{OneAnswer}
+use Rattle.cs_hub.specs.judgement.Laws.{OneAnswer, OneWidenAnswer}
+use Rattle.cs_hub.specs.judgement.Widens.{WidenAsked}
 use Rattle.cs_hub.specs.judgement.Pushes.{Push}
 use Rattle.cs_wire.specs.Laws.{OneRequest}
 use Rattle.cs_hub.specs.Laws.{OneService}
 use Rattle.cs_wire.specs.Requests.{Asked, AsksCatch, AsksPush, AsksPull, AsksWiden}
 use Rattle.cs_wire.specs.Answers.{answer_spelling}
 use Rattle.cs_wire.specs.declared.fault.WireFault.{WireFault}
-use Rattle.cs_hub.specs.Serves.{AnswersAsked, Outcome, TakesBytes, TakesGroups, TakesNormal, TellsCaught, caught_answer, or_refusal, push_answer}
+use Rattle.cs_hub.specs.Serves.{AnswersAsked, Outcome, TakesBytes, TakesGroups, TakesNormal, TakesWiden, TellsCaught, caught_answer, or_refusal, push_answer, widen_head}
 use Rattle.cs_wire.specs.declared.push_head.PushHead.{PushHead}
 use Rattle.cs_hub.specs.declared.refusal.Refusal.{Refusal}
 use Rattle.cs_hub.specs.declared.refusal.Refusal.TheVariants.{NoChangeset, NoForm}
@@ -33,6 +34,7 @@ pub record Below : Type 0 where
   pub request : OneRequest
   pub answer : OneAnswer
   pub caught : OneCatch
+  pub widens : OneWidenAnswer
 
 -- the catalog at each version is one
 abbrev AreCatalogs : HubState → Type 0
@@ -77,6 +79,11 @@ changesets_agree laws limit old new last head changeset one other are (inr (grou
     let same : groups ≡ others = laws.changesets.one groups others fits fits' (sym is ∙ is') in
     groups_agree laws limit old new last head others one other are (subst (λ (g : List Group). TakesGroups limit old head g one new) same p) q
 
+widens_agree : (laws : Below) (limit : ℕ) (old new last : HubState) (asked : WidenAsked) (one other : Outcome) → TakesWiden limit old asked one new → TakesWiden limit old asked other last → Agree one other new last
+widens_agree laws limit old new last asked one other (some, p, a) (others, q, b) =
+    let both = laws.widens limit old new last asked some others p q in
+    (a ∙ ap or_refusal both.0 ∙ sym b, both.1)
+
 caught_agree : (laws : Below) (old : HubState) (asker first count : ℕ) (answer other : List ℕ) → AreCatalogs old → TellsCaught old asker first count answer → TellsCaught old asker first count other → answer ≡ other
 caught_agree laws old asker first count answer other are (told, catches, a) (others, catches', b) =
     let same : told ≡ others = laws.caught (catalog_at old.opening old.log first) asker count (drop first old.log) told others (are first) catches catches' in
@@ -93,7 +100,9 @@ asked_agree laws limit old new last (Ok (AsksCatch asker first count)) answer ot
 asked_agree laws limit old new last (Ok (AsksCatch asker first count)) answer other are (inr (le, told), n) (inl (lt, b), m) = absurd (omega arith)
 asked_agree laws limit old new last (Ok (AsksCatch asker first count)) answer other are (inr (le, told), n) (inr (le', also), m) =
     (caught_agree laws old asker first count answer other are told also, n ∙ sym m)
-asked_agree laws limit old new last (Ok (AsksWiden number base width table)) answer other are (a, n) (b, m) = (a ∙ sym b, n ∙ sym m)
+asked_agree laws limit old new last (Ok (AsksWiden number base width table)) answer other are (some, p, a) (others, q, b) =
+    let both = widens_agree laws limit old new last (record { number = number; base = base; table = table; width = width }) some others p q in
+    (a ∙ ap (λ (o : Outcome). answer_spelling (push_answer (widen_head number base) o)) both.0 ∙ sym b, both.1)
 asked_agree laws limit old new last (Ok (AsksPush head changeset)) answer other are (some, p, a) (others, q, b) =
     let both = changesets_agree laws limit old new last head changeset some others are p q in
     (a ∙ ap (λ (o : Outcome). answer_spelling (push_answer head o)) both.0 ∙ sym b, both.1)

@@ -1,6 +1,5 @@
 -- A push that was judged, and then appended.
-use Rattle.std.proofs.Common.{◌≡◌, ◌+◌, ℕ, List, ◌∷◌, [], ◌++◌, length, inr, Ok, Err, refl, sym, subst, ◌∙◌}
-use Rattle.cs_value.specs.declared.catalog.TableDef.{TableDef}
+use Rattle.std.proofs.Common.{◌≡◌, ◌+◌, ℕ, List, ◌∷◌, [], ◌++◌, inr, Ok, Err, refl, sym, subst}
 use Rattle.cs_store.specs.declared.log.entry.LogEntry.{LogEntry}
 use Rattle.cs_store.specs.Contents.{Contents}
 use Rattle.cs_store.specs.declared.fault.StoreFault.{StoreFault}
@@ -8,10 +7,10 @@ use Rattle.cs_store.specs.declared.fault.StoreFault.TheVariants as stored
 use Rattle.cs_store.specs.declared.store.RowStore.{Ghosts}
 use Rattle.cs_pending.specs.Calls.{WritesStore}
 use Rattle.cs_pending.specs.Storing.{WasRead, then_not_written, then_written}
-use Rattle.cs_hub.specs.log_store.Shows.{ShowsLog}
+use Rattle.cs_hub.specs.log_store.Versions.{ShowsBy, ShowsSomeBy, Versions}
 use Rattle.cs_hub.specs.appending.Appended.{IsAppendedIn}
 use Rattle.cs_hub.specs.judgement.Hub.{with_entry}
-use Rattle.cs_hub.specs.judgement.Judged.{ShowsLogOf, hub_of}
+use Rattle.cs_hub.specs.judgement.Judged.{hub_of}
 use Rattle.cs_hub.specs.judgement.Pushes.{Push, Pushes, entry_of_push}
 use Rattle.cs_hub.specs.PushedOf.{IsSameOrAppended}
 use Rattle.cs_hub.specs.declared.judgement.fault.HubFault.{HubFault}
@@ -26,30 +25,30 @@ was_device : (fault : StoreFault) (told : HubFault) → IsToldAs fault told → 
 was_device stored.Memory told is at = absurd (let m = is.0 refl in cc)
 was_device stored.Device told is at = refl
 
-module _ {S : Type 0} (g : Ghosts S) (limit : ℕ) (opening : List TableDef) (push : Push) (count : ℕ) (entry : LogEntry) (of : entry ≡ entry_of_push push) (old mid new : S) where
+module _ {S : Type 0} (g : Ghosts S) (limit : ℕ) (versions : Versions) (push : Push) (entry : LogEntry) (of : entry ≡ entry_of_push push) (old mid new : S) where
   abbrev Readable : S → Type 0
-  Readable store = ShowsLogOf opening count (g.contents store)
+  Readable store = ShowsSomeBy versions (g.contents store)
 
   abbrev Appended : Contents → Type 0
-  Appended = IsSameOrAppended limit opening count push (g.contents old)
+  Appended = IsSameOrAppended limit versions push (g.contents old)
 
   abbrev AppendedThere : Contents → Type 0
-  AppendedThere = IsAppendedIn opening entry (g.contents mid)
+  AppendedThere = IsAppendedIn versions entry (g.contents mid)
 
-  module _ (read : WasRead g (Readable old) old mid) (judged : g.honest mid → (log : List LogEntry) → ShowsLog opening (g.contents old) log → count ≡ length log
-      → Pushes limit (hub_of opening log) push (Ok (Accepted (push.head.base + 1))) (with_entry (hub_of opening log) entry)) where
+  module _ (read : WasRead g (Readable old) old mid) (judged : g.honest mid → (log : List LogEntry) → ShowsBy versions (g.contents old) log
+      → Pushes limit (hub_of versions.opening log) push (Ok (Accepted (push.head.base + 1))) (with_entry (hub_of versions.opening log) entry)) where
     there : g.honest mid → Readable old → Readable mid
-    there h shown = (shown.0, subst (λ (c : Contents). ShowsLog opening c shown.0) (sym (read.same h)) shown.1, shown.2)
+    there h shown = subst (ShowsSomeBy versions) (sym (read.same h)) shown
 
-    since : g.honest mid → (c : Contents) → AppendedThere c → IsAppendedIn opening entry (g.contents old) c
-    since h c i = subst (λ (was : Contents). IsAppendedIn opening entry was c) (read.same h) i
+    since : g.honest mid → (c : Contents) → AppendedThere c → IsAppendedIn versions entry (g.contents old) c
+    since h c i = subst (λ (was : Contents). IsAppendedIn versions entry was c) (read.same h) i
 
     as_push : g.honest mid → (c : Contents) → AppendedThere c → Appended c
     as_push h c i = inr (
-      subst (λ (e : LogEntry). IsAppendedIn opening e (g.contents old) c) of (since h c i),
-      λ shown log shows. (
+      subst (λ (e : LogEntry). IsAppendedIn versions e (g.contents old) c) of (since h c i),
+      λ log shows. (
         log ++ entry ∷ [],
-        judged h log shows (shown.2 ∙ sym shown.1.entries.counted ∙ shows.entries.counted),
+        judged h log shows,
         (since h c i log shows).1,
       ),
     )

@@ -9,12 +9,13 @@ use Rattle.cs_store.specs.declared.log.entry.LogEntry.{LogEntry}
 use Rattle.cs_store.specs.Calls.{MoreFailures}
 use Rattle.cs_store.specs.Contents.{Contents}
 use Rattle.cs_store.specs.declared.store.RowStore.{Ghosts}
-use Rattle.cs_hub.specs.log_store.Shows.{ShowsLog}
+use Rattle.cs_hub.specs.log_store.Versions.{ShowsBy, Versions}
 use Rattle.cs_hub.specs.judgement.Judged.{hub_of}
 use Rattle.cs_hub.specs.Calls.{AnswersHub, StaysHub}
-use Rattle.cs_hub.specs.Holding.{Holding, Shows}
+use Rattle.cs_hub.specs.Holding.{Holding, Shows, versions_of}
 use Rattle.cs_hub.specs.Laws.{RunsByLog}
 use Rattle.cs_hub.specs.Serves.{IsSame, Serves}
+use Rattle.cs_hub.proofs.LogStoreLemmas.Versions.{versions_are}
 
 no_more : (old new : ℕ) → new ≡ old → old < 2 ^ 64 - 1 → MoreFailures old new → ⊥
 no_more old new same few more = omega (arith, same, few, more)
@@ -61,11 +62,10 @@ module _ {S : Type 0} (g : Ghosts S) where
     same_failures : (old new : Holding S) → g.misreads new.store ≡ g.misreads old.store → g.failed new.store ≡ g.failed old.store
     same_failures old new same = only new.store ∙ same ∙ sym (only old.store)
 
-    stayed : (old new : Holding S) (log : List LogEntry) → new.catalog ≡ old.catalog → new.newest ≡ old.newest → g.contents new.store ≡ g.contents old.store → Shows g.contents old log → Shows g.contents new log
-    stayed old new log catalog newest same shows = (
-      subst (λ (t : List TableDef). ShowsLog t (g.contents new.store) log) (sym catalog) (subst (λ (c : Contents). ShowsLog old.catalog c log) (sym same) shows.0),
-      newest ∙ shows.1,
-    )
+    stayed : (old new : Holding S) (log : List LogEntry) → new.catalog ≡ old.catalog → new.newest ≡ old.newest → new.widens ≡ old.widens → g.contents new.store ≡ g.contents old.store → Shows g.contents old log → Shows g.contents new log
+    stayed old new log catalog newest widens same shows =
+        subst (λ (v : Versions). ShowsBy v (g.contents new.store) log) (sym (versions_are (versions_of new) (versions_of old) catalog newest widens))
+        (subst (λ (c : Contents). ShowsBy (versions_of old) c log) (sym same) shows)
 
     same_hub : (old new : Holding S) (log : List LogEntry) (line answer : List ℕ) → new ≡ old → Shows g.contents old log
         → Answers (Serves limit) IsSame (hub_of old.catalog log) line answer (hub_of old.catalog log) → GoesOn old log line answer new
@@ -105,7 +105,7 @@ module _ {S : Type 0} (g : Ghosts S) where
     goes_on old new log line answer few h shows (inr (a, inr stays)) = record {
       next = log;
       answered = inr (a, inl refl);
-      shows = stayed old new log stays.catalog stays.newest (stays.same h) shows;
+      shows = stayed old new log stays.catalog stays.newest stays.widens (stays.same h) shows;
       catalog = stays.catalog;
       failures = same_failures old new (stays.as_read h log shows);
     }

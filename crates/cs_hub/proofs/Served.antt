@@ -11,7 +11,7 @@ use Rattle.cs_store.specs.declared.fault.StoreFault.{StoreFault}
 use Rattle.cs_store.specs.declared.fault.StoreFault.TheVariants.{Device}
 use Rattle.cs_store.specs.declared.store.RowStore.{Ghosts}
 use Rattle.cs_pending.specs.Calls.{WritesStore}
-use Rattle.cs_hub.specs.log_store.Shows.{ShowsLog}
+use Rattle.cs_hub.specs.log_store.Versions.{ShowsBy, Versions}
 use Rattle.cs_hub.specs.appending.Appended.{IsAppendedIn}
 use Rattle.cs_hub.specs.judgement.Judged.{hub_of}
 use Rattle.cs_hub.specs.declared.judgement.fault.HubFault.TheVariants as hub
@@ -19,12 +19,13 @@ use Rattle.cs_wire.specs.Answers.{answer_spelling}
 use Rattle.cs_wire.specs.declared.answer.Answer.TheVariants.{Short}
 use Rattle.cs_wire.specs.declared.short_answer.ShortAnswer.TheVariants.{Accepted}
 use Rattle.cs_hub.specs.Calls.{AnswersHub, IsNotServed, IsSameOrGrown, IsServedIn, ServesStore}
-use Rattle.cs_hub.specs.Holding.{Holding, Shows, ShowsSome}
+use Rattle.cs_hub.specs.Holding.{Holding, Shows, ShowsSome, versions_of}
 use Rattle.cs_hub.specs.Judges.{AcceptsNext, IsJudged, ReadsHub}
 use Rattle.cs_hub.specs.Serves.{Serves, refused}
 use Rattle.cs_hub.specs.declared.judged.Judged.{Judged}
 use Rattle.cs_hub.specs.declared.judged.Judged.TheVariants.{Append}
 use Rattle.cs_hub.specs.declared.refusal.Refusal.TheVariants.{ByHub}
+use Rattle.cs_hub.proofs.LogStoreLemmas.Versions.{versions_are}
 
 -- ---- what was judged
 
@@ -54,26 +55,30 @@ is_not_served (Err want) is = tt
 module _ {S : Type 0} (g : Ghosts S) (limit : ℕ) (request : List ℕ) (old mid new : Holding S) (read : ReadsHub g old mid) (entry : LogEntry) (reply : Vec ℕ Global)
     (judged : g.honest mid.store → (log : List LogEntry) → Shows g.contents old log → Serves limit (hub_of old.catalog log) request reply.items (hub_of old.catalog (log ++ entry ∷ []))) where
   abbrev Stores : {E : Type 0} → Result (Vec ℕ Global) E → Type 0
-  Stores result = ServesStore g old.catalog (ShowsSome g.contents old) (IsServedIn limit old.catalog request (g.contents old.store)) old.store new.store result
+  Stores result = ServesStore g (versions_of old) (ShowsSome g.contents old) (IsServedIn limit (versions_of old) request (g.contents old.store)) old.store new.store result
 
   abbrev Appends : {T : Type 0} → Result T StoreFault → Type 0
-  Appends result = WritesStore g Device (ShowsSome g.contents mid) (IsAppendedIn mid.catalog entry (g.contents mid.store)) mid.store new.store result
+  Appends result = WritesStore g Device (ShowsSome g.contents mid) (IsAppendedIn (versions_of mid) entry (g.contents mid.store)) mid.store new.store result
+
+  -- the tables of the log are known as before
+  same_versions : versions_of mid ≡ versions_of old
+  same_versions = versions_are (versions_of mid) (versions_of old) read.catalog read.newest read.widens
 
   -- what was appended behind what was read
-  since : g.honest mid.store → (left : Contents) → IsAppendedIn mid.catalog entry (g.contents mid.store) left → IsAppendedIn old.catalog entry (g.contents old.store) left
+  since : g.honest mid.store → (left : Contents) → IsAppendedIn (versions_of mid) entry (g.contents mid.store) left → IsAppendedIn (versions_of old) entry (g.contents old.store) left
   since h left i =
-      subst (λ (was : Contents). IsAppendedIn old.catalog entry was left) (read.same h) (subst (λ (t : List TableDef). IsAppendedIn t entry (g.contents mid.store) left) read.catalog i)
+      subst (λ (was : Contents). IsAppendedIn (versions_of old) entry was left) (read.same h) (subst (λ (v : Versions). IsAppendedIn v entry (g.contents mid.store) left) same_versions i)
 
   -- contents that a stop may leave: those from before, or the request was served
-  stopped : g.honest mid.store → (left : Contents) → g.may_leave mid.store left ⊎ IsAppendedIn mid.catalog entry (g.contents mid.store) left
-      → g.may_leave old.store left ⊎ (IsSameOrGrown old.catalog (g.contents old.store) left × (ShowsSome g.contents old → IsServedIn limit old.catalog request (g.contents old.store) left))
+  stopped : g.honest mid.store → (left : Contents) → g.may_leave mid.store left ⊎ IsAppendedIn (versions_of mid) entry (g.contents mid.store) left
+      → g.may_leave old.store left ⊎ (IsSameOrGrown (versions_of old) (g.contents old.store) left × (ShowsSome g.contents old → IsServedIn limit (versions_of old) request (g.contents old.store) left))
   stopped h left (inl before) = inl (read.crash h left before)
   stopped h left (inr i) = inr (
     inr (entry, since h left i),
     λ shown log shows. (
       reply.items,
       log ++ entry ∷ [],
-      inl (judged h log (shows, shown.2 ∙ sym shown.1.entries.counted ∙ shows.entries.counted)),
+      inl (judged h log shows),
       (since h left i log shows).1,
     ),
   )
@@ -85,16 +90,13 @@ module _ {S : Type 0} (g : Ghosts S) (limit : ℕ) (request : List ℕ) (old mid
 
   -- the same log is shown
   still : g.honest mid.store → (log : List LogEntry) → Shows g.contents old log → Shows g.contents mid log
-  still h log shows = (
-    subst (λ (c : Contents). ShowsLog mid.catalog c log) (sym (read.same h)) (subst (λ (t : List TableDef). ShowsLog t (g.contents old.store) log) (sym read.catalog) shows.0),
-    read.newest ∙ shows.1,
-  )
+  still h log shows = subst (λ (v : Versions). ShowsBy v (g.contents mid.store) log) (sym same_versions) (subst (λ (c : Contents). ShowsBy (versions_of old) c log) (sym (read.same h)) shows)
 
   misread_alike : {T : Type 0} (result : Result T StoreFault) → Appends result → g.honest new.store → (log : List LogEntry) → Shows g.contents old log → g.misreads new.store ≡ g.misreads old.store
   misread_alike result writes h log shows =
       let was = writes.was_honest h in
       let is = still was log shows in
-      writes.as_read h (log, is.0, is.1) ∙ read.as_read was log shows
+      writes.as_read h (log, is) ∙ read.as_read was log shows
 
   -- it was appended, and the reply is told
   pub stored : {T E : Type 0} (t : T) → reply.items ≢ refused (ByHub hub.Device) → Appends (Ok t) → Stores {E = E} (Ok reply)
@@ -105,7 +107,7 @@ module _ {S : Type 0} (g : Ghosts S) (limit : ℕ) (request : List ℕ) (old mid
     durable = λ h told left l. lasts (writes.was_honest h) left (writes.durable h left l);
     crash = λ h left l. stopped (writes.was_honest h) left (writes.crash h left l);
     later = omega (arith, read.later, writes.later);
-    as_read = λ h shown. misread_alike (Ok t) writes h shown.0 (shown.1, shown.2);
+    as_read = λ h shown. misread_alike (Ok t) writes h shown.0 shown.1;
   }
 
   -- it wasn't, and that is told
@@ -117,7 +119,7 @@ module _ {S : Type 0} (g : Ghosts S) (limit : ℕ) (request : List ℕ) (old mid
     durable = λ h served left l. absurd (served not);
     crash = λ h left l. stopped (writes.was_honest h) left (writes.crash h left l);
     later = omega (arith, read.later, writes.later);
-    as_read = λ h shown. misread_alike {T = T} (Err fault) writes h shown.0 (shown.1, shown.2);
+    as_read = λ h shown. misread_alike {T = T} (Err fault) writes h shown.0 shown.1;
   }
 
   pub answered : {T : Type 0} (t : T) → new.catalog ≡ mid.catalog → Appends (Ok t) → (g.honest new.store → (log : List LogEntry) → Shows g.contents mid log → Shows g.contents new (log ++ entry ∷ [])) → AnswersHub g limit old request reply.items new
@@ -130,8 +132,8 @@ module _ {S : Type 0} (g : Ghosts S) (limit : ℕ) (request : List ℕ) (old mid
     as_read = λ h log shows. misread_alike (Ok t) writes h log shows;
   }
 
-  pub failed : {T : Type 0} (fault : StoreFault) (answer : List ℕ) → fault ≡ Device → new.catalog ≡ mid.catalog → new.newest ≡ mid.newest → Appends {T = T} (Err fault) → answer ≡ refused (ByHub hub.Device) → AnswersHub g limit old request answer new
-  failed {T} fault answer device catalog newest writes is = record {
+  pub failed : {T : Type 0} (fault : StoreFault) (answer : List ℕ) → fault ≡ Device → new.catalog ≡ mid.catalog → new.newest ≡ mid.newest → new.widens ≡ mid.widens → Appends {T = T} (Err fault) → answer ≡ refused (ByHub hub.Device) → AnswersHub g limit old request answer new
+  failed {T} fault answer device catalog newest widens writes is = record {
     was_honest = λ h. read.was_honest (writes.was_honest h);
     catalog = catalog ∙ read.catalog;
     answered = λ h log shows.
@@ -139,10 +141,7 @@ module _ {S : Type 0} (g : Ghosts S) (limit : ℕ) (request : List ℕ) (old mid
         let here = still (writes.was_honest h) log shows in (
           log,
           inr (more, is, refl),
-          (
-            subst (λ (t : List TableDef). ShowsLog t (g.contents new.store) log) (sym catalog) (subst (λ (c : Contents). ShowsLog mid.catalog c log) (sym (writes.err h)) here.0),
-            newest ∙ here.1,
-          ),
+          subst (λ (v : Versions). ShowsBy v (g.contents new.store) log) (sym (versions_are (versions_of new) (versions_of mid) catalog newest widens)) (subst (λ (c : Contents). ShowsBy (versions_of mid) c log) (sym (writes.err h)) here),
         );
     as_read = λ h log shows. misread_alike {T = T} (Err fault) writes h log shows;
   }

@@ -1,7 +1,6 @@
 -- What calls of a hub over a store leave of it, and what they tell (profile of this project).
 use Rattle.std.specs.declared.alloc.Global.{Global}
 use Rattle.std.specs.Prelude.{Vec, ◌≡◌, ◌⊎◌, ◌<◌, ◌≤◌, ℕ, List, length, Result, Ok, Err}
-use Rattle.cs_value.specs.declared.catalog.TableDef.{TableDef}
 use Rattle.cs_store.specs.declared.log.entry.LogEntry.{LogEntry}
 use Rattle.cs_store.specs.Calls.{MoreFailures}
 use Rattle.cs_store.specs.Contents.{Contents}
@@ -11,6 +10,7 @@ use Rattle.cs_hub.specs.judgement.Judged.{hub_of}
 use Rattle.cs_hub.specs.declared.judgement.fault.HubFault.{HubFault}
 use Rattle.cs_hub.specs.declared.judgement.fault.HubFault.TheVariants.{Memory, Ahead, Device}
 use Rattle.cs_hub.specs.log_store.Shows.{ShowsLog}
+use Rattle.cs_hub.specs.log_store.Versions.{ShowsBy, Versions}
 use Rattle.cs_hub.specs.Holding.{Holding, Shows}
 use Rattle.cs_hub.specs.Serves.{ServesIf, refused}
 use Rattle.cs_hub.specs.declared.refusal.Refusal.TheVariants.{ByHub}
@@ -23,15 +23,16 @@ IsEntriesFault log first Device = Unit {0}
 IsEntriesFault log first _ = ⊥
 
 -- contents are as they were, or have one entry more
-abbrev pub IsSameOrGrown : List TableDef → Contents → Contents → Type 0
-IsSameOrGrown opening old new = (new ≡ old) ⊎ ((entry : LogEntry) × IsAppendedIn opening entry old new)
+abbrev pub IsSameOrGrown : Versions → Contents → Contents → Type 0
+IsSameOrGrown versions old new = (new ≡ old) ⊎ ((entry : LogEntry) × IsAppendedIn versions entry old new)
 
 -- contents of a hub's store in which a request was served, by the log that was shown
-abbrev pub IsServedIn : ℕ → List TableDef → List ℕ → Contents → Contents → Type 0
-IsServedIn limit opening request old left =
-    (log : List LogEntry) → ShowsLog opening old log
-    → (answer : List ℕ) × (next : List LogEntry) × ServesIf (Unit {0}) limit (hub_of opening log) request answer (hub_of opening next)
-    × ShowsLog opening left next
+abbrev pub IsServedIn : ℕ → Versions → List ℕ → Contents → Contents → Type 0
+IsServedIn limit versions request old left =
+    (log : List LogEntry) → ShowsBy versions old log
+    → (answer : List ℕ) × (next : List LogEntry)
+    × ServesIf (Unit {0}) limit (hub_of versions.opening log) request answer (hub_of versions.opening next)
+    × ShowsLog versions.opening left next
 
 -- it wasn't served: memory was refused, or it is told that the device failed
 abbrev pub IsNotServed : {E : Type 0} → Result (Vec ℕ Global) E → Type 0
@@ -42,9 +43,9 @@ IsNotServed (Err fault) = Unit {0}
 module _ {S : Type 0} (g : Ghosts S) where
   -- a request was served, whatever was told: the store was only read, or one entry was appended, in one commit; `served` is what is said of
   -- contents in which the request was served
-  pub record ServesStore {E : Type 0} (opening : List TableDef) (readable : Type 0) (served : Contents → Type 0) (old new : S) (result : Result (Vec ℕ Global) E) : Type 0 where
+  pub record ServesStore {E : Type 0} (versions : Versions) (readable : Type 0) (served : Contents → Type 0) (old new : S) (result : Result (Vec ℕ Global) E) : Type 0 where
     pub was_honest : g.honest new → g.honest old
-    pub grown : g.honest new → IsSameOrGrown opening (g.contents old) (g.contents new)
+    pub grown : g.honest new → IsSameOrGrown versions (g.contents old) (g.contents new)
     -- where it wasn't served nothing has changed
     pub err : g.honest new → IsNotServed result → g.contents new ≡ g.contents old
     -- where it was, a stop leaves what the store holds, alone, where anything was written
@@ -53,7 +54,7 @@ module _ {S : Type 0} (g : Ghosts S) where
     -- in any case a stop leaves what it could leave before, or one entry more. Of a store that shows a log, that is the one with which this
     -- request was served
     pub crash : g.honest new → (left : Contents) → g.may_leave new left
-        → g.may_leave old left ⊎ (IsSameOrGrown opening (g.contents old) left × (readable → served left))
+        → g.may_leave old left ⊎ (IsSameOrGrown versions (g.contents old) left × (readable → served left))
     pub later : g.failed old ≤ g.failed new
     -- nothing that can be read is told to be no such thing
     pub as_read : g.honest new → readable → g.misreads new ≡ g.misreads old
@@ -72,5 +73,6 @@ module _ {S : Type 0} (g : Ghosts S) where
     pub was_honest : g.honest new.store → g.honest old.store
     pub catalog : new.catalog ≡ old.catalog
     pub newest : new.newest ≡ old.newest
+    pub widens : new.widens ≡ old.widens
     pub same : g.honest new.store → g.contents new.store ≡ g.contents old.store
     pub as_read : g.honest new.store → (log : List LogEntry) → Shows g.contents old log → g.misreads new.store ≡ g.misreads old.store

@@ -6,6 +6,7 @@ use Rattle.cs_store.specs.Contents.{Contents}
 use Rattle.cs_store.specs.declared.store.RowStore.{Ghosts}
 use Rattle.cs_hub.specs.appending.Appended.{AppendsEntry}
 use Rattle.cs_hub.specs.judgement.Judged.{hub_of}
+use Rattle.cs_hub.specs.log_store.Versions.{Versions}
 use Rattle.cs_hub.specs.Follows.{FitsBehind}
 use Rattle.cs_hub.specs.Holding.{Holding, Shows}
 use Rattle.cs_hub.specs.Serves.{Serves, ServesIf}
@@ -35,14 +36,15 @@ AcceptsNext count (Append entry batch reply) =
     reply.items ≡ answer_spelling (Short (Accepted entry.origin entry.number (count + 1)))
 
 -- and a commit of its batch to these contents appends it
-abbrev pub AppendsJudged : List TableDef → Contents → Judged → Type 0
-AppendsJudged opening contents (Reply answer) = Unit {0}
-AppendsJudged opening contents (Append entry batch reply) = AppendsEntry opening entry contents batch
+abbrev pub AppendsJudged : Versions → Contents → Judged → Type 0
+AppendsJudged versions contents (Reply answer) = Unit {0}
+AppendsJudged versions contents (Append entry batch reply) = AppendsEntry versions entry contents batch
 
 -- the hub's store was only read, whatever was told, and the hub is as it was
 pub record ReadsHub {S : Type 0} (g : Ghosts S) (old new : Holding S) : Type 0 where
   pub catalog : new.catalog ≡ old.catalog
   pub newest : new.newest ≡ old.newest
+  pub widens : new.widens ≡ old.widens
   pub was_honest : g.honest new.store → g.honest old.store
   pub same : g.honest new.store → g.contents new.store ≡ g.contents old.store
   -- a stop now leaves nothing that it could not leave before

@@ -20,6 +20,7 @@ hub_code (hub.Conflict conflict) = 41
 hub_code hub.Empty = 42
 hub_code hub.Full = 43
 hub_code hub.Device = 44
+hub_code hub.BadWiden = 46
 
 -- all of them. Those of bytes that spell no request, of a changeset and of its form are these faults' own. A line that is no hex is
 -- 22, and want of memory 1: these are told by whoever reads the lines
@@ -50,3 +51,4 @@ refusal_of_hub (hub.Conflict conflict) = ByHub (hub.Conflict conflict)
 refusal_of_hub hub.Empty = ByHub hub.Empty
 refusal_of_hub hub.Full = ByHub hub.Full
 refusal_of_hub hub.Device = ByHub hub.Device
+refusal_of_hub hub.BadWiden = ByHub hub.BadWiden

@@ -16,6 +16,8 @@ use Rattle.cs_hub.specs.declared.catching.caught.Caught.{Caught}
 use Rattle.cs_hub.specs.declared.catching.caught.Caught.TheVariants as caught
 use Rattle.cs_hub.specs.judgement.Hub.{HubState, entries_from, judging}
 use Rattle.cs_hub.specs.judgement.Pushes.{Push, Pushes}
+use Rattle.cs_hub.specs.judgement.Widens.{WidenAsked, Widens}
+use Rattle.cs_hub.specs.declared.judgement.widen.TheConstants.{WIDEN_ORIGIN}
 use Rattle.cs_hub.specs.declared.judgement.fault.HubFault.{HubFault}
 use Rattle.cs_hub.specs.declared.judgement.fault.HubFault.TheVariants.{Ahead, Device}
 use Rattle.cs_hub.specs.declared.judgement.push.Pushed.{Pushed}
@@ -29,7 +31,6 @@ use Rattle.cs_wire.specs.Told.{told_entry}
 use Rattle.cs_wire.specs.declared.answer.Answer.{Answer}
 use Rattle.cs_wire.specs.declared.answer.Answer.TheVariants.{Short, Entries, Merged}
 use Rattle.cs_wire.specs.declared.fault.WireFault.{WireFault}
-use Rattle.cs_wire.specs.declared.fault.WireFault.TheVariants.{BadTag}
 use Rattle.cs_wire.specs.declared.push_head.PushHead.{PushHead}
 use Rattle.cs_wire.specs.declared.short_answer.ShortAnswer.TheVariants.{Accepted, Stale, Refused}
 
@@ -62,6 +63,15 @@ TakesBytes limit old head changeset outcome new =
     ⊎ ((groups : List Group) × FitsChangeset groups × (changeset ≡ changeset_spelling groups)
     × TakesGroups limit old head groups outcome new)
 
+-- new columns of a table
+abbrev pub TakesWiden : ℕ → HubState → WidenAsked → Outcome → HubState → Type 0
+TakesWiden limit old asked outcome new =
+    (told : Result Pushed HubFault) × Widens limit old asked told new × (outcome ≡ or_refusal told)
+
+-- the numbers by which they are told
+abbrev pub widen_head : ℕ → ℕ → PushHead
+widen_head number base = record { origin = WIDEN_ORIGIN; number = number; base = base }
+
 -- the answer that tells what became of a push
 abbrev pub push_answer : PushHead → Outcome → Answer
 push_answer head (Ok (pushed.Accepted version)) = Short (Accepted head.origin head.number version)
@@ -75,7 +85,7 @@ refused refusal = answer_spelling (Short (Refused (refusal_code refusal)))
 -- the answer that tells what a replica catches up by, from a version of the log on. It is the entry there, or so many as one
 -- changeset
 abbrev pub caught_answer : ℕ → ℕ → List LogEntry → Caught → Answer
-caught_answer asker first log caught.Own = Entries first (map told_entry (entries_from first 1 log))
+caught_answer asker first log caught.Alone = Entries first (map told_entry (entries_from first 1 log))
 caught_answer asker first log (caught.Merged count changes) = Merged asker first (first + count) (normal_spelling changes)
 
 -- the bytes tell a replica what it catches up by
@@ -84,7 +94,7 @@ TellsCaught old asker first count bytes =
     (told : Caught) × Catches (catalog_at old.opening old.log first) asker count (drop first old.log) told
     × (bytes ≡ answer_spelling (caught_answer asker first old.log told))
 
--- the answer to what is asked, or to bytes that ask nothing. No hub takes a wider table yet: it knows no such request
+-- the answer to what is asked, or to bytes that ask nothing
 abbrev pub AnswersAsked : ℕ → HubState → Result Asked WireFault → List ℕ → HubState → Type 0
 AnswersAsked limit old (Err fault) bytes new = (bytes ≡ refused (NoRequest fault)) × (new ≡ old)
 AnswersAsked limit old (Ok (AsksPull first count)) bytes new =
@@ -95,7 +105,10 @@ AnswersAsked limit old (Ok (AsksCatch asker first count)) bytes new =
     (((length old.log < first) × (bytes ≡ refused (ByHub Ahead)))
     ⊎ ((first ≤ length old.log) × TellsCaught old asker first count bytes))
     × (new ≡ old)
-AnswersAsked limit old (Ok (AsksWiden number base width table)) bytes new = (bytes ≡ refused (NoRequest BadTag)) × (new ≡ old)
+AnswersAsked limit old (Ok (AsksWiden number base width table)) bytes new =
+    (outcome : Outcome)
+    × TakesWiden limit old (record { number = number; base = base; table = table; width = width }) outcome new
+    × (bytes ≡ answer_spelling (push_answer (widen_head number base) outcome))
 AnswersAsked limit old (Ok (AsksPush head changeset)) bytes new =
     (outcome : Outcome) × TakesBytes limit old head changeset outcome new
     × (bytes ≡ answer_spelling (push_answer head outcome))

@@ -5,6 +5,7 @@ use Rattle.cs_store.specs.log.Stored.{IsEntryOf}
 use Rattle.cs_store.specs.declared.log.entry.LogEntry.{LogEntry}
 use Rattle.cs_store.specs.Contents.{Contents}
 use Rattle.cs_store.specs.declared.store.RowStore.{Ghosts}
+use Rattle.cs_hub.specs.log_store.Versions.{Versions, newest_tables}
 use Rattle.cs_hub.specs.judgement.Hub.{HubState, with_entry}
 use Rattle.cs_hub.specs.judgement.Judged.{hub_of}
 use Rattle.cs_hub.specs.declared.judgement.fault.HubFault.TheVariants.{Device}
@@ -15,7 +16,8 @@ use Rattle.cs_wire.specs.Requests.{Asked}
 use Rattle.cs_wire.specs.declared.fault.WireFault.{WireFault}
 use Rattle.cs_wire.specs.declared.push_head.PushHead.{PushHead}
 use Rattle.cs_hub.specs.Follows.{FitsBehind}
-use Rattle.cs_hub.specs.Serves.{AnswersAsked, Outcome, TakesBytes, refused}
+use Rattle.cs_hub.specs.judgement.Widens.{WidenAsked}
+use Rattle.cs_hub.specs.Serves.{AnswersAsked, Outcome, TakesBytes, TakesWiden, refused}
 use Rattle.cs_hub.specs.declared.judged.Judged.{Judged}
 use Rattle.cs_hub.specs.declared.judged.Judged.TheVariants.{Reply, Append}
 use Rattle.cs_hub.specs.declared.refusal.Refusal.{Refusal}
@@ -26,6 +28,12 @@ abbrev pub TakesBytesIf : Type 0 → ℕ → HubState → PushHead → List ℕ 
 TakesBytesIf device_failed limit old head changeset (Err Memory) new = new ≡ old
 TakesBytesIf device_failed limit old head changeset (Err (ByHub Device)) new = device_failed × (new ≡ old)
 TakesBytesIf device_failed limit old head changeset outcome new = TakesBytes limit old head changeset outcome new
+
+-- the same of new columns
+abbrev pub TakesWidenIf : Type 0 → ℕ → HubState → WidenAsked → Outcome → HubState → Type 0
+TakesWidenIf device_failed limit old asked (Err Memory) new = new ≡ old
+TakesWidenIf device_failed limit old asked (Err (ByHub Device)) new = device_failed × (new ≡ old)
+TakesWidenIf device_failed limit old asked outcome new = TakesWiden limit old asked outcome new
 
 -- the answer to what is asked, or a failed device, which changes nothing
 abbrev pub AnswersAskedIf : Type 0 → ℕ → HubState → Result Asked WireFault → List ℕ → HubState → Type 0
@@ -40,11 +48,19 @@ JudgesBytes device_failed limit old head changeset (Ok (judged.Append entry batc
     TakesBytes limit old head changeset (Ok (Accepted (head.base + 1))) (with_entry old entry)
 JudgesBytes device_failed limit old head changeset (Err refusal) = TakesBytesIf device_failed limit old head changeset (Err refusal) old
 
+-- what is to become of new columns, in the same way
+abbrev pub JudgesWiden : Type 0 → ℕ → HubState → WidenAsked → Result Judgement Refusal → Type 0
+JudgesWiden device_failed limit old asked (Ok (judged.Told pushed)) = TakesWiden limit old asked (Ok pushed) old
+JudgesWiden device_failed limit old asked (Ok (judged.Append entry batch)) =
+    TakesWiden limit old asked (Ok (Accepted (asked.base + 1))) (with_entry old entry)
+JudgesWiden device_failed limit old asked (Err refusal) = TakesWidenIf device_failed limit old asked (Err refusal) old
+
 -- what is to be appended is an entry of the tables, and was pushed so at the newest version; there is room for it
-abbrev pub IsEntryToAppend : List TableDef → ℕ → ℕ → PushHead → Judgement → Type 0
-IsEntryToAppend opening limit count head (judged.Told pushed) = Unit {0}
-IsEntryToAppend opening limit count head (judged.Append entry batch) =
-    IsEntryOf opening entry × (head.base ≡ count) × (count < limit) × (entry.origin ≡ head.origin) × (entry.number ≡ head.number)
+abbrev pub IsEntryToAppend : Versions → ℕ → PushHead → Judgement → Type 0
+IsEntryToAppend versions limit head (judged.Told pushed) = Unit {0}
+IsEntryToAppend versions limit head (judged.Append entry batch) =
+    IsEntryOf (newest_tables versions) entry × (head.base ≡ versions.newest) × (versions.newest < limit)
+    × (entry.origin ≡ head.origin) × (entry.number ≡ head.number)
 
 -- what is asked is to be answered so
 abbrev pub IsJudgedAs : Type 0 → ℕ → List TableDef → List LogEntry → Result Asked WireFault → Judged → Type 0

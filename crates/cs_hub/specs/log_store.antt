@@ -1,2 +1,4 @@
 pub mod Shows
+pub mod Versions
+pub mod Later
 pub mod Laws

@@ -19,7 +19,9 @@ ghost use Rattle.cs_hub.specs.judgement.Pushes.{Push};
 ghost use Rattle.cs_hub.specs.declared.judgement.fault.HubFault.TheVariants.{Device, Memory};
 ghost use Rattle.cs_hub.specs.Calls.{AnswersHub, IsEntriesFault, IsServedIn, ServesStore, StaysHub};
 ghost use Rattle.cs_hub.specs.Follows.{FitsBehind, IsFollowFault};
-ghost use Rattle.cs_hub.specs.Holding.{Shows, ShowsSome};
+ghost use Rattle.cs_hub.specs.Holding.{Shows, ShowsSome, versions_of};
+ghost use Rattle.cs_hub.specs.Serves.{widen_head};
+ghost use Rattle.cs_hub.specs.log_store.Versions.{judging_tables};
 ghost use Rattle.cs_hub.specs.Judges.{AcceptsNext, AppendsJudged, HasRoom, IsJudged, ReadsHub};
 ghost use Rattle.cs_hub.specs.declared.follow_fault.FollowFault.TheVariants as follow;
 ghost use Rattle.cs_hub.specs.declared.follow_fault.FollowFault.TheVariants.{Full};
@@ -28,33 +30,35 @@ ghost use Rattle.cs_hub.specs.Opened.{Opens};
 ghost use Rattle.cs_hub.specs.PushedOf.{IsPushedOf, IsSameOrAppended};
 
 use crate::appending::{append, append_tried};
+use crate::fitting::is_entry_of;
 use crate::follow_fault::FollowFault;
 use crate::judged::Judged;
-use crate::judgement::{HubFault, Judgement, Pushed, judge_at};
-use crate::judging::{is_entry_of, judge_told};
+use crate::judgement::{HubFault, Judgement, Pushed, WIDEN_ORIGIN, judge_at};
+use crate::judging::{judge_told, widen_told};
 use crate::log_opening::open_log;
 use crate::log_reading::entries_at;
+use crate::log_store::Catalogs;
 use crate::refusal::Refusal;
 use crate::serving::{catch_told, pull_at, refuse};
 use cs_normal::Normal;
 use cs_opening::OpenFault;
 use cs_pending::rows::{RowAtKey, rows_of};
-use cs_store::log::laws::catalog_stays;
+use cs_store::log::laws::catalog_by_widens;
 use cs_store::log::{LogEntry, MAX_ENTRIES};
 use cs_store::{Batch, RowStore, StoreFault};
 use cs_value::{Catalog, Memory, TableDef};
-use cs_wire::{PushHead, Request, WireFault};
+use cs_wire::{PushHead, Request};
 use std::alloc::{AllocError, Global};
 use std::marker::Model;
 
 /// An append-only log of accepted pushes, and the rows that it makes, in a store. Contracts see it as what it holds: the store, the
-/// tables that it opened with, and how many entries the log has. What they say of the log they say where the store shows one.
+/// tables that it opened with, how many entries the log has, and the tables that it widened. What they say of the log they say where the
+/// store shows one.
 #[derive(Drop)]
 pub struct Hub<S: RowStore> {
     alloc: Global,
     store: S,
-    catalog: Catalog,
-    newest: u32,
+    catalogs: Catalogs,
 }
 
 impl<S: RowStore> Model for Hub<S> {
@@ -62,13 +66,29 @@ impl<S: RowStore> Model for Hub<S> {
 
     ghost Value = { Holding S };
 
-    ghost view = { λ hub. record { store = hub.store; catalog = hub.catalog; newest = hub.newest } };
+    ghost view = { λ hub. record {
+      store = hub.store;
+      catalog = hub.catalogs.opening;
+      newest = hub.catalogs.newest;
+      widens = hub.catalogs.widens;
+    } };
+}
+
+/// The numbers by which the entry of a request is told, where that widens a table.
+fn widen_head(number: u64, base: u64) -> PushHead
+    ensures { result ≡ widen_head number base }
+{
+    PushHead {
+        origin: WIDEN_ORIGIN,
+        number,
+        base,
+    }
 }
 
 impl<S: RowStore> Hub<S> {
-    /// Opens the hub of these tables over a store. A store that holds nothing is laid out, in one commit: the log has no entry. Any other is
-    /// only read, and judged; that its rows are those that its entries make is taken as it stands. It keeps `alloc` for later calls. At `Err`
-    /// the store comes back as it was.
+    /// Opens the hub of these tables over a store. A store that holds nothing is laid out, in one commit: the log has no entry. Any other
+    /// is only read, and judged; that its rows are those that its entries make is taken as it stands. It keeps `alloc` for later calls.
+    /// At `Err` the store comes back as it was.
     ///
     /// # Errors
     ///
@@ -97,34 +117,36 @@ impl<S: RowStore> Hub<S> {
         crate::laws::opened_shows();
         let _tables = catalog.tables();
         let mut store = store;
-        let copied = match catalog.copy(alloc) {
-            Ok(copied) => copied,
-            Err(fault) => return Err((store, OpenFault::from(fault))),
-        };
         match open_log(alloc, &mut store, catalog) {
-            Ok(newest) => Ok(Hub {
+            Ok(catalogs) => Ok(Hub {
                 alloc,
                 store,
-                catalog: copied,
-                newest,
+                catalogs,
             }),
             Err(fault) => Err((store, fault)),
         }
     }
 
-    /// The tables that are synced, in the catalog's order.
+    /// The tables that the hub opened with, in the catalog's order.
     pub fn tables(&self) -> &[TableDef]
         ensures same { result.now ≡ self.now.catalog }
         ensures tables { AreTables self.now.catalog }
     {
-        self.catalog.tables()
+        self.catalogs.opening().tables()
+    }
+
+    /// The tables by which a push with this base is judged: those at the base, or at the newest version where that is below it.
+    pub fn judging(&self, base: u64) -> &Catalog
+        ensures { result.now ≡ judging_tables (versions_of self.now) base }
+    {
+        self.catalogs.judging(base)
     }
 
     /// How many entries the log has, which is the newest version.
     pub fn newest(&self) -> u64
         ensures { result ≡ self.now.newest }
     {
-        self.newest as u64
+        self.catalogs.newest() as u64
     }
 
     /// The entries from `first` on, at most `limit`. The store is only read.
@@ -144,13 +166,15 @@ impl<S: RowStore> Hub<S> {
             (ShowsSome S.contents self.old) self.old.store self.new.store result }
         ensures catalog { self.new.catalog ≡ self.old.catalog }
         ensures newest { self.new.newest ≡ self.old.newest }
+        ensures widens { self.new.widens ≡ self.old.widens }
     {
-        if first > self.newest as u64 {
+        let newest = self.catalogs.newest();
+        if first > newest as u64 {
             return Err(HubFault::Ahead);
         }
         let first = first as u32;
-        let count = limit.min(self.newest - first);
-        let entries = match entries_at(self.alloc, &mut self.store, &self.catalog, first, count) {
+        let count = limit.min(newest - first);
+        let entries = match entries_at(self.alloc, &mut self.store, &self.catalogs, first, count) {
             Ok(entries) => entries,
             Err(fault) => return Err(HubFault::from(fault)),
         };
@@ -174,11 +198,12 @@ impl<S: RowStore> Hub<S> {
             (ShowsSome S.contents self.old) self.old.store self.new.store result }
         ensures catalog { self.new.catalog ≡ self.old.catalog }
         ensures newest { self.new.newest ≡ self.old.newest }
+        ensures widens { self.new.widens ≡ self.old.widens }
     {
         cs_store::log::laws::log_states();
-        catalog_stays();
-        let _tables = self.catalog.tables();
-        rows_of(self.alloc, &mut self.store, &self.catalog, table)
+        catalog_by_widens();
+        let _tables = self.catalogs.opening().tables();
+        rows_of(self.alloc, &mut self.store, self.catalogs.present(), table)
     }
 
     /// Takes a push: a changeset that the replica `head.origin` made as its push `head.number` on the tables of the version
@@ -190,16 +215,16 @@ impl<S: RowStore> Hub<S> {
     ///
     /// `Empty`, `Ahead`, `Full` and `Conflict` in these cases; `Memory` and `Device`. Nothing has changed then.
     pub fn push(&mut self, head: PushHead, changes: Normal) -> Result<Pushed, HubFault>
-        requires fits { FitsCatalog self.old.catalog changes }
+        requires fits { FitsCatalog (judging_tables (versions_of self.old) head.base) changes }
         requires size { length (normal_spelling changes) ≤ MAX_CHANGESET }
 
         // The answer is that to the push by the log that the store showed; the store then shows the log after it.
         ensures answered { S.honest self.new.store → (log : List Entry) → Shows S.contents self.old log
-            → IsPushedOf MAX_ENTRIES self.old.catalog log (record { head = head; changes = changes }) (S.contents self.new.store) self.new.newest result }
+            → IsPushedOf MAX_ENTRIES self.old.catalog log (record { head = head; changes = changes }) (Shows S.contents self.new) result }
 
         // The store was only read, or the push appended, in one commit, and then it is accepted.
         ensures writes { WritesStore S.RowStore Device (ShowsSome S.contents self.old)
-            (IsSameOrAppended MAX_ENTRIES self.old.catalog self.old.newest (record { head = head; changes = changes }) (S.contents self.old.store))
+            (IsSameOrAppended MAX_ENTRIES (versions_of self.old) (record { head = head; changes = changes }) (S.contents self.old.store))
             self.old.store self.new.store result }
 
         // A refusal for another reason than want of memory or a failed device comes before anything is written. A stop leaves nothing more.
@@ -207,13 +232,13 @@ impl<S: RowStore> Hub<S> {
             → OnErr result ((left : Contents) → S.may_leave self.new.store left → S.may_leave self.old.store left) }
         ensures catalog { self.new.catalog ≡ self.old.catalog }
         ensures kept { OnErr result (self.new.newest ≡ self.old.newest) }
+        ensures widens { OnErr result (self.new.widens ≡ self.old.widens) }
     {
-        let next = self.newest as u64 + 1;
+        let next = self.catalogs.newest() as u64 + 1;
         match judge_at(
             self.alloc,
             &mut self.store,
-            &self.catalog,
-            self.newest,
+            &self.catalogs,
             MAX_ENTRIES,
             head,
             changes,
@@ -240,8 +265,8 @@ impl<S: RowStore> Hub<S> {
         ensures refused { OnErr result (StaysHub S.RowStore self.old self.new) }
 
         // What becomes of the store: where the request was served, a stop leaves what it then holds; else maybe this very request served.
-        ensures store { ServesStore S.RowStore self.old.catalog (ShowsSome S.contents self.old)
-            (IsServedIn MAX_ENTRIES self.old.catalog request.now (S.contents self.old.store)) self.old.store self.new.store result }
+        ensures store { ServesStore S.RowStore (versions_of self.old) (ShowsSome S.contents self.old)
+            (IsServedIn MAX_ENTRIES (versions_of self.old) request.now (S.contents self.old.store)) self.old.store self.new.store result }
     {
         match self.judge(MAX_ENTRIES, request)? {
             Judged::Reply(answer) => Ok(answer),
@@ -272,7 +297,7 @@ impl<S: RowStore> Hub<S> {
         ensures accepts { IfOk result (AcceptsNext self.old.newest) }
 
         // What is to be appended is, by a commit of the batch to what the store holds.
-        ensures appends { S.honest self.new.store → IfOk result (AppendsJudged self.new.catalog (S.contents self.new.store)) }
+        ensures appends { S.honest self.new.store → IfOk result (AppendsJudged (versions_of self.new) (S.contents self.new.store)) }
 
         // The store is only read, and the hub stays as it is.
         ensures reads { ReadsHub S.RowStore self.old self.new }
@@ -283,8 +308,7 @@ impl<S: RowStore> Hub<S> {
             Ok(Request::Pull { first, limit }) => Ok(Judged::Reply(pull_at(
                 self.alloc,
                 &mut self.store,
-                &self.catalog,
-                self.newest,
+                &self.catalogs,
                 first,
                 limit,
             )?)),
@@ -297,21 +321,31 @@ impl<S: RowStore> Hub<S> {
             ) => Ok(Judged::Reply(catch_told(
                 self.alloc,
                 &mut self.store,
-                &self.catalog,
-                self.newest,
+                &self.catalogs,
                 origin,
                 first,
                 limit,
             )?)),
-            Ok(Request::Widen { .. }) => Ok(Judged::Reply(refuse(
+            Ok(
+                Request::Widen {
+                    number,
+                    base,
+                    width,
+                    table,
+                },
+            ) => widen_told(
                 self.alloc,
-                &Refusal::NoRequest(WireFault::BadTag),
-            )?)),
+                &mut self.store,
+                &self.catalogs,
+                limit,
+                widen_head(number, base),
+                table,
+                width,
+            ),
             Ok(Request::Push { head, changeset }) => judge_told(
                 self.alloc,
                 &mut self.store,
-                &self.catalog,
-                self.newest,
+                &self.catalogs,
                 limit,
                 head,
                 changeset,
@@ -335,23 +369,21 @@ impl<S: RowStore> Hub<S> {
 
         // The entry is appended, in one commit.
         ensures writes { WritesStore S.RowStore follow.Device (ShowsSome S.contents self.old)
-            (IsAppendedIn self.old.catalog entry.now (S.contents self.old.store)) self.old.store self.new.store result }
+            (IsAppendedIn (versions_of self.old) entry.now (S.contents self.old.store)) self.old.store self.new.store result }
         ensures catalog { self.new.catalog ≡ self.old.catalog }
         ensures counted { OnOk result (self.new.newest ≡ self.old.newest + 1) }
         ensures kept { OnErr result (self.new.newest ≡ self.old.newest) }
+        ensures widens { OnErr result (self.new.widens ≡ self.old.widens) }
     {
-        catalog_stays();
-        if self.newest >= MAX_ENTRIES {
+        catalog_by_widens();
+        if self.catalogs.newest() >= MAX_ENTRIES {
             return Err(FollowFault::Full);
         }
-        if !is_entry_of(self.alloc, &self.catalog, entry)? {
+        if !is_entry_of(self.alloc, self.catalogs.present(), entry)? {
             return Err(FollowFault::Undefined);
         }
-        match append(self.alloc, &mut self.store, &self.catalog, entry) {
-            Ok(()) => {
-                self.newest += 1;
-                Ok(())
-            }
+        match append(self.alloc, &mut self.store, &mut self.catalogs, entry) {
+            Ok(()) => Ok(()),
             Err(fault) => Err(FollowFault::from(fault)),
         }
     }
@@ -364,24 +396,25 @@ impl<S: RowStore> Hub<S> {
     /// `Memory` and `Device`. Nothing has changed then.
     pub fn append_judged(&mut self, entry: &LogEntry, batch: &Batch) -> Result<(), StoreFault>
         requires room { self.old.newest < MAX_ENTRIES }
-        requires tried { S.honest self.old.store → AppendsEntry self.old.catalog entry.now (S.contents self.old.store) batch.now }
+        requires tried { S.honest self.old.store → AppendsEntry (versions_of self.old) entry.now (S.contents self.old.store) batch.now }
 
         // The store then shows the log with the entry, which was appended in one commit.
         ensures appended { S.honest self.new.store → (log : List Entry) → Shows S.contents self.old log
             → OnOk result (Shows S.contents self.new (log ++ entry.now ∷ [])) }
         ensures writes { WritesStore S.RowStore stored.Device (ShowsSome S.contents self.old)
-            (IsAppendedIn self.old.catalog entry.now (S.contents self.old.store)) self.old.store self.new.store result }
+            (IsAppendedIn (versions_of self.old) entry.now (S.contents self.old.store)) self.old.store self.new.store result }
         ensures catalog { self.new.catalog ≡ self.old.catalog }
         ensures counted { OnOk result (self.new.newest ≡ self.old.newest + 1) }
         ensures kept { OnErr result (self.new.newest ≡ self.old.newest) }
+        ensures widens { OnErr result (self.new.widens ≡ self.old.widens) }
     {
-        match append_tried(&mut self.store, &self.catalog, entry, batch) {
-            Ok(()) => {
-                self.newest += 1;
-                Ok(())
-            }
-            Err(fault) => Err(fault),
-        }
+        append_tried(
+            self.alloc,
+            &mut self.store,
+            &mut self.catalogs,
+            entry,
+            batch,
+        )
     }
 
     /// The store, as it is. It takes no memory.

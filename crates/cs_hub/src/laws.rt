@@ -6,12 +6,12 @@ ghost use Rattle.cs_store.specs.declared.log.entry.TheConstants.{MAX_ENTRIES};
 
 use crate::catching::laws::{catch_has_answer, one_catch};
 use crate::hub::Hub;
-use crate::judgement::laws::{one_answer, push_has_answer};
+use crate::judgement::laws::{one_answer, push_has_answer, widen_answers, widens_keep_log};
 use cs_changeset::laws::changesets;
 use cs_normalising::laws::{form_or_unfit, no_fault_where_fit, one_normal_form, one_unfit};
 use cs_store::RowStore;
 use cs_store::log::laws::{
-    appended_is_log, catalog_stays, catalogs_are_tables, empty_is_log, longer_log,
+    appended_is_log, catalog_next, catalogs_are_tables, empty_is_log, longer_log,
 };
 use cs_wire::laws::{asks_something, one_request};
 
@@ -28,11 +28,12 @@ pub fn request_has_answer()
 {
     asks_something();
     push_has_answer();
+    widen_answers();
     catch_has_answer();
     changesets();
     form_or_unfit();
     catalogs_are_tables();
-    catalog_stays();
+    catalog_next();
 }
 
 /// The hub and the bytes of a request determine the answer to them and the hub after it, where memory is not wanting.
@@ -41,6 +42,7 @@ pub fn one_service()
 {
     one_request();
     one_answer();
+    widen_answers();
     one_catch();
     changesets();
     no_fault_where_fit();
@@ -54,6 +56,7 @@ pub fn served_again()
     ensures { ServedAgain }
 {
     longer_log();
+    widens_keep_log();
 }
 
 /// A push that would be appended behind a log is stale where another entry came there.
@@ -69,6 +72,7 @@ pub fn one_run()
 {
     one_service();
     appended_is_log();
+    widens_keep_log();
     empty_is_log();
 }
 

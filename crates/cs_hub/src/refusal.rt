@@ -18,7 +18,7 @@ pub(crate) enum Refusal {
     NoChangeset(Fault),
     /// The changeset has no normal form by the catalog.
     NoForm(Unfit),
-    /// The hub refuses the push or the pull.
+    /// The hub refuses the push, the pull, or the new columns.
     ByHub(HubFault),
 }
 
@@ -39,6 +39,7 @@ impl Refusal {
             Refusal::ByHub(HubFault::Empty) => 42,
             Refusal::ByHub(HubFault::Full) => 43,
             Refusal::ByHub(HubFault::Device) => 44,
+            Refusal::ByHub(HubFault::BadWiden) => 46,
         }
     }
 }

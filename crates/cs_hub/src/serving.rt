@@ -6,10 +6,10 @@ ghost use Rattle.cs_pending.specs.Calls.{ReadsStore};
 ghost use Rattle.cs_store.specs.declared.fault.StoreFault.TheVariants.{Device};
 ghost use Rattle.cs_store.specs.declared.log.entry.LogEntry.{LogEntry as Entry};
 ghost use Rattle.cs_store.specs.declared.log.entry.TheConstants.{MAX_ENTRIES};
-ghost use Rattle.cs_hub.specs.log_store.Shows.{ShowsLog};
+ghost use Rattle.cs_hub.specs.log_store.Versions.{ShowsBy, ShowsSomeBy};
 ghost use Rattle.cs_store.specs.Calls.{MoreFailures};
 ghost use Rattle.cs_hub.specs.catching.Consolidated.{IsShort};
-ghost use Rattle.cs_hub.specs.judgement.Judged.{ShowsLogOf, hub_of};
+ghost use Rattle.cs_hub.specs.judgement.Judged.{hub_of};
 ghost use Rattle.cs_wire.specs.Answers.{answer_spelling};
 ghost use Rattle.cs_wire.specs.declared.answer.Answer.TheVariants.{Merged};
 ghost use Rattle.cs_wire.specs.Requests.{AsksCatch, AsksPull};
@@ -19,11 +19,12 @@ ghost use Rattle.cs_hub.specs.Steps.{AnswersAskedIf, LooksAt};
 use crate::catching::Caught;
 use crate::judgement::HubFault;
 use crate::log_reading::{catch_at, entries_told};
+use crate::log_store::Catalogs;
 use crate::refusal::Refusal;
 use cs_normal::Normal;
 use cs_store::log::laws::most_bytes;
 use cs_store::{RowStore, StoreFault};
-use cs_value::{Catalog, Memory};
+use cs_value::Memory;
 use cs_wire::{SHORT, ShortAnswer, merged_head};
 use std::alloc::{AllocError, Global};
 
@@ -40,21 +41,27 @@ pub(crate) fn refuse(alloc: Global, refusal: &Refusal) -> Result<Vec<u8>, Memory
 pub(crate) fn pull_at<S: RowStore>(
     alloc: Global,
     store: &mut S,
-    catalog: &Catalog,
-    newest: u32,
+    catalogs: &Catalogs,
     first: u64,
     limit: u32,
 ) -> Result<Vec<u8>, Memory>
-    ensures looks { LooksAt S.RowStore (ShowsLogOf catalog.now newest (S.contents store.old)) store.old store.new }
-    ensures answered { S.honest store.new → (log : List Entry) → ShowsLog catalog.now (S.contents store.old) log → newest ≡ length log
-        → IfOk result (λ bytes. AnswersAskedIf (MoreFailures (S.failed store.old) (S.failed store.new)) MAX_ENTRIES (hub_of catalog.now log)
-        (Ok (AsksPull first limit)) bytes.items (hub_of catalog.now log)) }
+    ensures looks { LooksAt S.RowStore (ShowsSomeBy catalogs.now (S.contents store.old)) store.old store.new }
+    ensures answered { S.honest store.new → (log : List Entry) → ShowsBy catalogs.now (S.contents store.old) log
+        → IfOk result (λ bytes. AnswersAskedIf (MoreFailures (S.failed store.old) (S.failed store.new)) MAX_ENTRIES (hub_of catalogs.now.opening log)
+        (Ok (AsksPull first limit)) bytes.items (hub_of catalogs.now.opening log)) }
 {
+    let newest = catalogs.newest();
     if first > newest as u64 {
         return refuse(alloc, &Refusal::ByHub(HubFault::Ahead));
     }
     let first = first as u32;
-    match entries_told(alloc, store, catalog, first, limit.min(newest - first)) {
+    match entries_told(
+        alloc,
+        store,
+        catalogs.opening(),
+        first,
+        limit.min(newest - first),
+    ) {
         Ok(answer) => Ok(answer),
         Err(StoreFault::Memory) => Err(AllocError),
         Err(StoreFault::Device) => refuse(alloc, &Refusal::ByHub(HubFault::Device)),
@@ -86,20 +93,22 @@ fn merged_told(
 fn told_at<S: RowStore>(
     alloc: Global,
     store: &mut S,
-    catalog: &Catalog,
-    newest: u32,
+    catalogs: &Catalogs,
     asker: u32,
     first: u32,
     limit: u32,
 ) -> Result<Vec<u8>, StoreFault>
-    requires { first ≤ newest }
+    requires { first ≤ catalogs.now.newest }
     ensures reads { ReadsStore S.RowStore Device
-        (ShowsLogOf catalog.now newest (S.contents store.old)) store.old store.new result }
-    ensures told { S.honest store.new → (log : List Entry) → ShowsLog catalog.now (S.contents store.old) log → newest ≡ length log
-        → IfOk result (λ bytes. TellsCaught (hub_of catalog.now log) asker first limit bytes.items) }
+        (ShowsSomeBy catalogs.now (S.contents store.old)) store.old store.new result }
+    ensures told { S.honest store.new → (log : List Entry) → ShowsBy catalogs.now (S.contents store.old) log
+        → IfOk result (λ bytes. TellsCaught (hub_of catalogs.now.opening log) asker first limit bytes.items) }
 {
-    match catch_at(alloc, store, catalog, newest, asker, first, limit) {
-        Ok(Caught::Own) => entries_told(alloc, store, catalog, first, 1u32.min(newest - first)),
+    match catch_at(alloc, store, catalogs, asker, first, limit) {
+        Ok(Caught::Alone) => {
+            let count = 1u32.min(catalogs.newest() - first);
+            entries_told(alloc, store, catalogs.opening(), first, count)
+        }
         Ok(Caught::Merged { count, changes }) => {
             let answer = merged_told(alloc, asker, first, count, &changes)?;
             Ok(answer)
@@ -112,21 +121,21 @@ fn told_at<S: RowStore>(
 pub(crate) fn catch_told<S: RowStore>(
     alloc: Global,
     store: &mut S,
-    catalog: &Catalog,
-    newest: u32,
+    catalogs: &Catalogs,
     asker: u32,
     first: u64,
     limit: u32,
 ) -> Result<Vec<u8>, Memory>
-    ensures looks { LooksAt S.RowStore (ShowsLogOf catalog.now newest (S.contents store.old)) store.old store.new }
-    ensures answered { S.honest store.new → (log : List Entry) → ShowsLog catalog.now (S.contents store.old) log → newest ≡ length log
-        → IfOk result (λ bytes. AnswersAskedIf (MoreFailures (S.failed store.old) (S.failed store.new)) MAX_ENTRIES (hub_of catalog.now log)
-        (Ok (AsksCatch asker first limit)) bytes.items (hub_of catalog.now log)) }
+    ensures looks { LooksAt S.RowStore (ShowsSomeBy catalogs.now (S.contents store.old)) store.old store.new }
+    ensures answered { S.honest store.new → (log : List Entry) → ShowsBy catalogs.now (S.contents store.old) log
+        → IfOk result (λ bytes. AnswersAskedIf (MoreFailures (S.failed store.old) (S.failed store.new)) MAX_ENTRIES (hub_of catalogs.now.opening log)
+        (Ok (AsksCatch asker first limit)) bytes.items (hub_of catalogs.now.opening log)) }
 {
+    let newest = catalogs.newest();
     if first > newest as u64 {
         return refuse(alloc, &Refusal::ByHub(HubFault::Ahead));
     }
-    match told_at(alloc, store, catalog, newest, asker, first as u32, limit) {
+    match told_at(alloc, store, catalogs, asker, first as u32, limit) {
         Ok(answer) => Ok(answer),
         Err(StoreFault::Memory) => Err(AllocError),
         Err(StoreFault::Device) => refuse(alloc, &Refusal::ByHub(HubFault::Device)),

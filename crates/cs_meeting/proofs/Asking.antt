@@ -85,12 +85,12 @@ module _ {S : Type 0} (g : Ghosts S) (sound : StepsAreSound) (small : MAX_ENTRIE
   }
 
   -- what is pending
-  pub asks_push : (h : hub.Holding S) (old new : replica.Holding S) (result : Result RequestBuf PushFault) → Turns g (IsPushedTo old.catalog result) old new
+  pub asks_push : (h : hub.Holding S) (old new : replica.Holding S) (result : Result RequestBuf PushFault) → Turns g (IsPushedTo result) old new
       → Asks g ask.Push result (both g h old) (both g h new)
   asks_push h old new (Ok request) turns r = record {
     was_honest = λ all. record { hub = all.hub; replica = turns.was_honest all.replica };
     went = λ all world stands.
-        let t = turned g r h old new world (λ tables. IsPushedTo tables (Ok request)) all.replica stands turns in
+        let t = turned g r h old new world (IsPushedTo (Ok request)) all.replica stands turns in
         let p = t.1 in
         let after : World = with_member world r t.0 in
         let made : Step MAX_ENTRIES world (MakePush r) (told.Sent (length world.messages)) (with_message after (Asking r (asked_by_owned request))) =
@@ -101,7 +101,7 @@ module _ {S : Type 0} (g : Ghosts S) (sound : StepsAreSound) (small : MAX_ENTRIE
   asks_push h old new (Err fault) turns r = record {
     was_honest = λ all. record { hub = all.hub; replica = turns.was_honest all.replica };
     went = λ all world stands.
-        let t = turned g r h old new world (λ tables. IsPushedTo tables (Err fault)) all.replica stands turns in
+        let t = turned g r h old new world (IsPushedTo (Err fault)) all.replica stands turns in
         let made : Step MAX_ENTRIES world (MakePush r) (told.NotPushed fault) world = step.pushes_not stands.0.is t.1.1 in (
           world,
           (made, refl),

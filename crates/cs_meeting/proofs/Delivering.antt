@@ -69,7 +69,7 @@ module _ {S : Type 0} (g : Ghosts S) (sound : StepsAreSound) (small : MAX_ENTRIE
       (
         record {
           catalog = kept.catalog ∙ stands.0.catalog;
-          log = (rw (kept.catalog, kept.same all.hub) stands.0.log.0, kept.newest ∙ stands.0.log.1);
+          log = (rw (kept.catalog, kept.same all.hub) stands.0.log.0, kept.newest ∙ stands.0.log.1, kept.widens ∙ stands.0.log.2);
           member = stands.0.member;
           is = stands.0.is;
           shows = stands.0.shows;
@@ -98,7 +98,7 @@ module _ {S : Type 0} (g : Ghosts S) (sound : StepsAreSound) (small : MAX_ENTRIE
         let by_bytes = weaker (MoreFailures (g.failed h.store) (g.failed new.store)) (hub_of h.catalog world.log) (hub_of h.catalog s.0) (request_spelling asked) bytes s.1 in
         let by_tables : ServesIf (Unit {0}) MAX_ENTRIES (hub_of world.tables world.log) (request_spelling asked) bytes (hub_of world.tables s.0) =
         subst (λ (t : List TableDef). ServesIf (Unit {0}) MAX_ENTRIES (hub_of t world.log) (request_spelling asked) bytes (hub_of t s.0)) stands.0.catalog by_bytes in
-        let f = fit MAX_ENTRIES world k r asked bytes s.0 small stands.1 there by_tables in
+        let f = fit MAX_ENTRIES world k asked bytes s.0 small stands.1 (inl (r, there)) by_tables in
         let next : World = with_log world s.0 in
         let served : World = with_message next (Tells r f.0) in
         let made : Step MAX_ENTRIES world (Deliver k []) (told.Sent (length world.messages)) served =
@@ -128,15 +128,15 @@ module _ {S : Type 0} (g : Ghosts S) (sound : StepsAreSound) (small : MAX_ENTRIE
     -- hearing it, or not for want of memory
     heard_so : (r k : ℕ) (wishes : List Wish) (h : hub.Holding S) (old new : replica.Holding S) (answer : Answer) (text : List ℕ) (had has : ℕ) (served : World) (after : Member)
         → (stands : StandsIn g MAX_ENTRIES r (both g h old) served) → IsMessage served k (Tells r answer) → FitsAnswer answer
-        → SeesAnswer served.tables had has stands.0.member (answer_spelling answer) wishes text after → ShowsMember g served.tables new after
+        → SeesAnswer served.tables had has stands.0.member (answer_spelling answer) wishes text after → ShowsMember g new after
         → (hearing : Outcome) × (next : World) × Step MAX_ENTRIES served (Deliver k wishes) hearing next × SaysHeard r wishes hearing served next text × StandsIn g MAX_ENTRIES r (both g h new) next
     heard_so r k wishes h old new answer text had has served after stands there fits (inl (its, result, seen, its_fits, spelled, hears, device, says)) shown =
         let same : Ok its ≡ Ok answer = one_told (answer_spelling answer) (Ok its) (Ok answer) (its_fits, spelled) (fits, refl) in
         let is : its ≡ answer = cc in
-        let by_answer : HearsSeeing served.tables stands.0.member answer wishes result seen after = subst (λ (a : Answer). HearsSeeing served.tables stands.0.member a wishes result seen after) is hears in
+        let by_answer : HearsSeeing stands.0.member answer wishes result seen after = subst (λ (a : Answer). HearsSeeing stands.0.member a wishes result seen after) is hears in
         let next : World = with_member served r after in
         let made : Step MAX_ENTRIES served (Deliver k wishes) (heard result) next =
-        step.hears there stands.0.is (seen_heard served.tables stands.0.member after answer wishes result seen by_answer) in
+        step.hears there stands.0.is (seen_heard stands.0.member after answer wishes result seen by_answer) in
         let shows = shows_turned g r h old new served after stands.0 shown in (
           heard result,
           next,
@@ -168,16 +168,18 @@ module _ {S : Type 0} (g : Ghosts S) (sound : StepsAreSound) (small : MAX_ENTRIE
       ),
     )
 
-    pub goes_served : (h new : hub.Holding S) (old one : replica.Holding S) (asked : Asked) (wishes : List Wish) (request bytes text : List ℕ) → request ≡ request_spelling asked
-        → AnswersHub g MAX_ENTRIES h request bytes new → Stepped g AskStep (AnswerLine bytes wishes) text old one
+    pub goes_served : (tables : List TableDef) (h new : hub.Holding S) (old one : replica.Holding S) (asked : Asked) (wishes : List Wish) (request bytes text : List ℕ) → h.catalog ≡ tables → request ≡ request_spelling asked
+        → AnswersHub g MAX_ENTRIES h request bytes new → Stepped g (AskStep tables) (AnswerLine bytes wishes) text old one
         → (r : ℕ) → GoesBehind g r asked wishes text (both g h old) (both g new one)
-    goes_served h new old one asked wishes request bytes text spelled answered stepped r = record {
+    goes_served tables h new old one asked wishes request bytes text by_these spelled answered stepped r = record {
       was_honest = λ all. record { hub = answers.was_honest all.hub; replica = stepped.turns.was_honest all.replica };
       went = λ all world stands k there count.
           let v = served_so r k asked h new old bytes all.hub answers world stands there in
-          let t = turned g r new old one v.1 (λ tables before after. AskStep tables (g.failed old.store) (g.failed one.store) before (AnswerLine bytes wishes) text after) all.replica v.7 stepped.turns in
+          let t = turned g r new old one v.1 (λ before after. AskStep tables (g.failed old.store) (g.failed one.store) before (AnswerLine bytes wishes) text after) all.replica v.7 stepped.turns in
+          let same : tables ≡ v.1.tables = sym by_these ∙ (stands.0.catalog ∙ sym v.6) in
           let sees : SeesAnswer v.1.tables (g.failed old.store) (g.failed one.store) v.7.0.member (answer_spelling v.0) wishes text t.0 =
-          subst (λ (b : List ℕ). SeesAnswer v.1.tables (g.failed old.store) (g.failed one.store) v.7.0.member b wishes text t.0) v.3 t.1 in
+          subst (λ (ts : List TableDef). SeesAnswer ts (g.failed old.store) (g.failed one.store) v.7.0.member (answer_spelling v.0) wishes text t.0) same
+          (subst (λ (b : List ℕ). SeesAnswer tables (g.failed old.store) (g.failed one.store) v.7.0.member b wishes text t.0) v.3 t.1) in
           let at_next : IsMessage v.1 (suc k) (Tells r v.0) = subst (λ (n : ℕ). IsMessage v.1 n (Tells r v.0)) count v.5 in
           let n = heard_so r (suc k) wishes new old one v.0 text (g.failed old.store) (g.failed one.store) v.1 t.0 v.7 at_next v.2 sees t.2 in (
             n.1,

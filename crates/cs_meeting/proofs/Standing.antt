@@ -28,7 +28,7 @@ module _ {S : Type 0} (g : Ghosts S) where
       record { catalog = shows.catalog; log = shows.log; member = shows.member; is = shows.is; shows = shows.shows }
 
   -- the replica is another
-  pub shows_turned : (r : ℕ) (h : hub.Holding S) (old new : replica.Holding S) (world : World) (after : Member) → ShowsIn g r (both h old) world → ShowsMember g world.tables new after
+  pub shows_turned : (r : ℕ) (h : hub.Holding S) (old new : replica.Holding S) (world : World) (after : Member) → ShowsIn g r (both h old) world → ShowsMember g new after
       → ShowsIn g r (both h new) (with_member world r after)
   shows_turned r h old new world after shows there = record {
     catalog = shows.catalog;
@@ -39,18 +39,20 @@ module _ {S : Type 0} (g : Ghosts S) where
   }
 
   -- what a call of the replica makes of it
-  pub turned : (r : ℕ) (h : hub.Holding S) (old new : replica.Holding S) (world : World) (turn : List TableDef → Member → Member → Type 0) → g.honest new.store
-      → (stands : StandsIn g MAX_ENTRIES r (both h old) world) → Turns g (turn old.catalog) old new
-      → (after : Member) × turn world.tables stands.0.member after × ShowsMember g world.tables new after
+  pub turned : (r : ℕ) (h : hub.Holding S) (old new : replica.Holding S) (world : World) (turn : Member → Member → Type 0) → g.honest new.store
+      → (stands : StandsIn g MAX_ENTRIES r (both h old) world) → Turns g turn old new
+      → (after : Member) × turn stands.0.member after × ShowsMember g new after
   turned r h old new world turn honest stands turns =
       let m = stands.0.member in
       let s = stands.0.shows in
       let placed = stands.1.placed r m stands.0.is in
-      let before : member_of old m.view ≡ m = ap (λ (p : Position). record { position = p; view = m.view }) s.position in
-      let t = turns.turned honest (subst AreTables (sym s.catalog) stands.1.tables) (subst FitsPosition (sym s.position) placed.fits) m.view s.shows in (
+      let before : member_of old m.view ≡ m =
+      ap (λ (ts : List TableDef). record { tables = ts; position = old.position; view = m.view }) s.catalog
+      ∙ ap (λ (p : Position). record { tables = m.tables; position = p; view = m.view }) s.position in
+      let t = turns.turned honest (subst AreTables (sym s.catalog) placed.are) (subst FitsPosition (sym s.position) placed.fits) m.view s.shows in (
         member_of new t.0,
-        subst (λ (b : Member). turn world.tables b (member_of new t.0)) before (subst (λ (c : List TableDef). turn c (member_of old m.view) (member_of new t.0)) s.catalog t.3),
-        record { catalog = turns.catalog ∙ s.catalog; position = refl; shows = t.1 },
+        subst (λ (b : Member). turn b (member_of new t.0)) before t.3,
+        record { catalog = refl; position = refl; shows = t.1 },
       )
 
   -- a step of a sound world leads to one

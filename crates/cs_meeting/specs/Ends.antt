@@ -7,7 +7,7 @@ use Rattle.cs_node_lines.specs.hub.Endings.{IsOpenedOver, NotOpenedOver}
 use Rattle.cs_node_lines.specs.told.Dump.{replica_text}
 use Rattle.cs_node_lines.specs.working.Endings.{NotOpened, printed}
 use Rattle.cs_opening.specs.declared.fault.OpenFault.{OpenFault}
-use Rattle.cs_opening.specs.moving.Moved.{IsStoreOpened}
+use Rattle.cs_opening.specs.Wider.{AreWider, IsOpenedBy}
 use Rattle.cs_pending.specs.declared.position.position.Position.{Position}
 use Rattle.cs_replica.specs.Holding as replica
 use Rattle.cs_store.specs.declared.log.entry.TheConstants.{MAX_ENTRIES}
@@ -33,12 +33,12 @@ abbrev pub IsCutText : MeetingFault → List (List ℕ) → List ℕ → List �
 IsCutText why untold text place = (untold ≡ text ∷ []) ⊎ ((untold ≡ []) × ((text ≡ place) ⊎ (why ≡ fault.Memory)))
 
 module _ {S : Type 0} (g : Ghosts S) (tables : List TableDef) (id : ℕ) where
-  -- the replica with this id was opened over the store
+  -- the replica with this id was opened over the store, by these tables or wider ones that it keeps
   pub record IsReplicaOver (store : S) (opened : replica.Holding S) : Type 0 where
-    pub tables_are : opened.catalog ≡ tables
+    pub tables_are : AreWider tables opened.catalog
     pub id_is : opened.position.id ≡ id
     pub was_honest : g.honest opened.store → g.honest store
-    pub is_opened : g.honest opened.store → IsStoreOpened tables id (g.contents store) (g.contents opened.store) opened.position
+    pub is_opened : g.honest opened.store → IsOpenedBy tables id (g.contents store) (g.contents opened.store) opened.catalog opened.position
 
   -- both were opened over their stores. Each sound world that these then showed, of which the replica is number `id`, went on so,
   -- and the stores show it in the end

@@ -24,7 +24,7 @@ module _ {S : Type 0} (g : Ghosts S) where
     pub log : hub.Shows g.contents held.hub world.log
     pub member : Member
     pub is : IsMember world r member
-    pub shows : ShowsMember g world.tables held.replica member
+    pub shows : ShowsMember g held.replica member
 
   -- and the world is sound, as each is that began with nothing
   abbrev pub StandsIn : ℕ → ℕ → Held S → World → Type 0

@@ -30,7 +30,7 @@ module _ (r : ℕ) (wishes : List Wish) where
     pub was : IsMember old r before
     pub is : IsMember new r after
     pub told : IsMessage old number (Tells r answer)
-    pub hears : HearsSeeing old.tables before answer wishes result seen after
+    pub hears : HearsSeeing before answer wishes result seen after
     pub says : IsSeenText old.tables result seen after.position.version text
 
   -- the text of what an answer came to that was delivered

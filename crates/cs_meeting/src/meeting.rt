@@ -67,7 +67,7 @@ impl<S: RowStore> Meeting<S> {
     fn ask(&mut self, ask: Ask) -> Result<RequestBuf, PushFault>
         ensures short { IfOk result (λ request. HasShortBytes (asked_by_owned request)) }
         ensures asks { Asks S.RowStore ask result self.old self.new }
-        ensures catalog { self.new.replica.catalog ≡ self.old.replica.catalog }
+        ensures catalog { self.new.hub.catalog ≡ self.old.hub.catalog }
     {
         cs_world::laws::steps_are_sound();
         cs_store::log::laws::most_entries();
@@ -89,10 +89,10 @@ impl<S: RowStore> Meeting<S> {
         request: &RequestBuf,
         wishes: &[Wish],
     ) -> Result<Reply, Memory>
-        requires catalog { self.old.replica.catalog ≡ catalog.now }
+        requires catalog { self.old.hub.catalog ≡ catalog.now }
         requires short { HasShortBytes (asked_by_owned request.now) }
         ensures delivers { Delivers S.RowStore (asked_by_owned request.now) wishes.now result self.old self.new }
-        ensures catalog { self.new.replica.catalog ≡ self.old.replica.catalog }
+        ensures catalog { self.new.hub.catalog ≡ self.old.hub.catalog }
     {
         cs_world::laws::answers_fit();
         cs_world::laws::steps_are_sound();
@@ -123,9 +123,9 @@ impl<S: RowStore> Meeting<S> {
         ask: Ask,
         wishes: &[Wish],
     ) -> Result<Reply, Memory>
-        requires { self.old.replica.catalog ≡ catalog.now }
+        requires { self.old.hub.catalog ≡ catalog.now }
         ensures makes { MakesTurn S.RowStore ask wishes.now result self.old self.new }
-        ensures catalog { self.new.replica.catalog ≡ self.old.replica.catalog }
+        ensures catalog { self.new.hub.catalog ≡ self.old.hub.catalog }
     {
         match self.ask(ask) {
             Ok(request) => self.deliver(catalog, &request, wishes),

@@ -28,10 +28,10 @@ impl<S: RowStore> Meeting<S> {
         wish: Wish,
         writer: &mut W,
     ) -> Result<bool, MeetingFault>
-        requires catalog { self.old.replica.catalog ≡ catalog.now }
+        requires catalog { self.old.hub.catalog ≡ catalog.now }
         requires next { next_ask self.old.hub.newest self.old.replica.position ≡ Some ask }
         ensures told { TurnTold S.RowStore wish result (W.failed writer.new) (W.contents writer.old) (W.contents writer.new) self.old self.new }
-        ensures catalog { self.new.replica.catalog ≡ self.old.replica.catalog }
+        ensures catalog { self.new.hub.catalog ≡ self.old.hub.catalog }
         ensures sent { OnOk result (W.sent writer.new) }
     {
         let version = self.replica.version();
@@ -56,7 +56,7 @@ impl<S: RowStore> Meeting<S> {
         wish: Wish,
         writer: &mut W,
     ) -> Result<bool, MeetingFault>
-        requires { self.old.replica.catalog ≡ catalog.now }
+        requires { self.old.hub.catalog ≡ catalog.now }
         ensures told { AllMet S.RowStore wish result (W.failed writer.new) (W.contents writer.old) (W.contents writer.new) self.old self.new }
         ensures sent { OnOk result (W.sent writer.old → W.sent writer.new) }
     {
@@ -90,7 +90,7 @@ impl<S: RowStore> Meeting<S> {
         wish: Wish,
         writer: &mut W,
     ) -> Result<bool, MeetingFault>
-        requires { self.old.replica.catalog ≡ catalog.now }
+        requires { self.old.hub.catalog ≡ catalog.now }
         ensures told { MetTold S.RowStore wish result (W.failed writer.new) (W.contents writer.old) (W.contents writer.new) self.old self.new }
         ensures sent { OnOk result (W.sent writer.new) }
     {

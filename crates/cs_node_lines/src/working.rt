@@ -20,4 +20,4 @@ pub(crate) use names::{store_fault_name, wire_fault_name};
 pub use node::{node_on, work_on};
 pub(crate) use reply::put_text;
 pub use reply::{Reply, write_reply};
-pub(crate) use working::{ROOM, put_heard, work_ask};
+pub(crate) use working::{ROOM, in_order, put_heard, work_ask};

@@ -7,7 +7,7 @@ use Rattle.cs_value.specs.Catalog.{AreTables}
 use Rattle.cs_value.specs.declared.catalog.TableDef.{TableDef}
 use Rattle.cs_store.specs.declared.log.entry.LogEntry.{LogEntry}
 use Rattle.cs_store.specs.Contents.{Contents, meta_value, name_text, nothing}
-use Rattle.cs_store.specs.declared.names.MetaName.TheVariants.{Pending}
+use Rattle.cs_store.specs.declared.names.MetaName.TheVariants.{Catalog, Pending}
 use Rattle.cs_store.specs.declared.store.RowStore.{Ghosts}
 use Rattle.cs_pending.specs.Laws.{empty_view}
 use Rattle.cs_pending.specs.View.{View}
@@ -16,6 +16,7 @@ use Rattle.cs_pending.specs.declared.position.position.Position.{Position}
 use Rattle.cs_opening.specs.Fresh.{first_position}
 use Rattle.cs_opening.specs.declared.fault.OpenFault.{OpenFault}
 use Rattle.cs_opening.specs.declared.fault.OpenFault.TheVariants.{Memory, Damaged, Device, Mismatch}
+use Rattle.cs_opening.specs.Wider.{IsOpenedBy, IsRefused, OpensBy}
 use Rattle.cs_replica.specs.Moved.{IsStoreFault, IsStoreOpened}
 use Rattle.cs_replica.specs.Opened.{Opens}
 use Rattle.cs_nodes.specs.following.Laws.{FreshStands}
@@ -29,37 +30,49 @@ fresh_at tables id old new position bare (inl (inr (some, same, stands))) = absu
 fresh_at tables id old new position bare (inr (changes, keeps, is, stands)) =
     absurd (let no : ◌≡◌ {A = Option (List ℕ)} (Some keeps.bytes) None = sym keeps.there ∙ ap (λ (c : Contents). meta_value c Pending) bare ∙ get-empty by_bytes (name_text Pending) in cc)
 
-pub shown_at : (tables others : List TableDef) (id : ℕ) (old new : Contents) (position : Position) → others ≡ tables → old ≡ nothing → IsStoreOpened tables id old new position
-    → (position ≡ first_position id) × ShowsAt others new position empty_view
-shown_at tables others id old new position same bare opened =
-    let first = fresh_at tables id old new position bare opened in
-    (first.0, subst (λ (t : List TableDef). ShowsAt t new position empty_view) (sym same) first.1)
+-- what holds nothing keeps no tables, so it is opened by the handed ones
+pub opened_by : (handed : List TableDef) (old : Contents) (tables : List TableDef) → old ≡ nothing → OpensBy handed old tables → tables ≡ handed
+opened_by handed old tables bare (inl keeps) =
+    absurd (let no : ◌≡◌ {A = Option (List ℕ)} (Some keeps.bytes) None = sym keeps.there ∙ ap (λ (c : Contents). meta_value c Catalog) bare ∙ get-empty by_bytes (name_text Catalog) in cc)
+opened_by handed old tables bare (inr (none, is)) = is
 
-pub fresh_node : FreshStands → (tables others : List TableDef) (known : List LogEntry) (id : ℕ) (old new : Contents) (position : Position) → AreTables tables → others ≡ tables → old ≡ nothing → IsStoreOpened tables id old new position
-    → (view : View) × ShowsAt others new position view × StandsIn others known position view
-fresh_node law tables others known id old new position are same bare opened =
-    let first = shown_at tables others id old new position same bare opened in
-    (empty_view, first.1, law others known position (subst (λ (t : List TableDef). AreTables t) (sym same) are) (ap (λ (x : Position). x.version) first.0) (ap (λ (x : Position). x.flight) first.0))
+pub shown_at : (handed tables : List TableDef) (id : ℕ) (old new : Contents) (position : Position) → old ≡ nothing → IsOpenedBy handed id old new tables position
+    → (position ≡ first_position id) × ShowsAt tables new position empty_view
+shown_at handed tables id old new position bare opened = fresh_at tables id old new position bare opened.1
+
+pub fresh_node : FreshStands → (handed tables : List TableDef) (known : List LogEntry) (id : ℕ) (old new : Contents) (position : Position) → AreTables handed → old ≡ nothing → IsOpenedBy handed id old new tables position
+    → (view : View) × ShowsAt tables new position view × StandsIn tables known position view
+fresh_node law handed tables known id old new position are bare opened =
+    let first = shown_at handed tables id old new position bare opened in
+    let same = opened_by handed old tables bare opened.0 in
+    (empty_view, first.1, law tables known position (subst (λ (t : List TableDef). AreTables t) (sym same) are) (ap (λ (x : Position). x.version) first.0) (ap (λ (x : Position). x.flight) first.0))
 
 -- nothing that is held is at fault
-pub bare_fault : (tables : List TableDef) (id : ℕ) (old : Contents) (fault : OpenFault) → old ≡ nothing → IsStoreFault tables id old fault → (fault ≡ Memory) ⊎ (fault ≡ Device)
-bare_fault tables id old Memory bare told = inl refl
-bare_fault tables id old Damaged bare told = absurd (told.0.0 bare)
-bare_fault tables id old Device bare told = inr refl
-bare_fault tables id old Mismatch bare told = absurd (told.0 bare)
+store_fault : (tables : List TableDef) (id : ℕ) (old : Contents) (fault : OpenFault) → old ≡ nothing → IsStoreFault tables id old fault → (fault ≡ Memory) ⊎ (fault ≡ Device)
+store_fault tables id old Memory bare told = inl refl
+store_fault tables id old Damaged bare told = absurd (told.0.0 bare)
+store_fault tables id old Device bare told = inr refl
+store_fault tables id old Mismatch bare told = absurd (told.0 bare)
 
-module _ {S : Type 0} (g : Ghosts S) (tables : List TableDef) (id : ℕ) (old new last : S) (same : last ≡ new) where
-  -- what is opened over nothing is at version 0, where the store is honest
-  pub never_further : (position : Position) (version : ℕ) → g.contents old ≡ nothing → (g.honest new → IsStoreOpened tables id (g.contents old) (g.contents new) position) → version ≡ position.version → (version ≡ 0 → ⊥)
+pub bare_fault : (handed : List TableDef) (id : ℕ) (old : Contents) (fault : OpenFault) → old ≡ nothing → IsRefused handed id old fault → (fault ≡ Memory) ⊎ (fault ≡ Device)
+bare_fault handed id old Memory bare told = inl refl
+bare_fault handed id old Damaged bare told = store_fault told.0 id old Damaged bare told.2
+bare_fault handed id old Device bare told = inr refl
+bare_fault handed id old Mismatch bare told = store_fault told.0 id old Mismatch bare told.2
+
+module _ {S : Type 0} (g : Ghosts S) (handed tables : List TableDef) (id : ℕ) (old new last : S) (same : last ≡ new) where
+  -- what is opened over nothing is at version 0 and has the handed tables, where the store is honest
+  pub never_further : (position : Position) → g.contents old ≡ nothing → (g.honest new → IsOpenedBy handed id (g.contents old) (g.contents new) tables position) → ((position.version ≡ 0) × (tables ≡ handed) → ⊥)
       → g.honest last → ⊥
-  never_further position version bare opened is further h =
-      further (is ∙ ap (λ (x : Position). x.version) (fresh_at tables id (g.contents old) (g.contents new) position bare (opened (subst g.honest same h))).0)
+  never_further position bare opened further h =
+      let is = opened (subst g.honest same h) in
+      further (ap (λ (x : Position). x.version) (fresh_at tables id (g.contents old) (g.contents new) position bare is.1).0, opened_by handed (g.contents old) tables bare is.0)
 
   -- of a store that isn't honest something else is told than that it was opened
-  pub told_else : Opens g tables id old new (Ok tt) → (g.honest last → ⊥)
-      → Opens g tables id old last (Err Damaged)
+  pub told_else : Opens g handed id old new (Ok tt) → (g.honest last → ⊥)
+      → Opens g handed id old last (Err Damaged)
   told_else opens never =
-      subst (λ (s : S). Opens g tables id old s (Err Damaged)) (sym same) (record {
+      subst (λ (s : S). Opens g handed id old s (Err Damaged)) (sym same) (record {
         was_honest = opens.was_honest;
         ok = λ h. tt;
         err = λ h. absurd (never (subst g.honest (sym same) h));

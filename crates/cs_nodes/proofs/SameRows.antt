@@ -1,7 +1,9 @@
 -- Nodes that meet show the same rows.
-use Rattle.std.proofs.Common.{◌≡◌, ◌≤◌, ℕ, List, length, min, take, sym, subst, ◌∙◌, arith}
+use Rattle.std.proofs.Common.{◌≡◌, ◌≤◌, ℕ, List, length, min, take, sym, ap, subst, ◌∙◌, arith}
+use Rattle.std.proofs.lemmas.List.{take-take}
 use Rattle.std.specs.Prelude.{Contains}
 use Rattle.cs_value.specs.declared.catalog.TableDef.{TableDef}
+use Rattle.cs_store.specs.log.Log.{catalog_at, catalog_of}
 use Rattle.cs_store.specs.declared.log.entry.LogEntry.{LogEntry}
 use Rattle.cs_store.specs.Contents.{Contents}
 use Rattle.cs_pending.specs.View.{View}
@@ -27,3 +29,13 @@ same_rows law one tables others same known more both contents held position othe
     sym ((one tables contents position view first shows firsts).1 table.name key)
     ∙ law tables known more both contents held position other first second alike less version rest stays firsts seconds' stands stood' table key inside
     ∙ sym ((one tables held other second seen seconds' sees').1 table.name key)
+
+-- and those that began with the same tables have the same
+pub same_tables : (opening tables others : List TableDef) (known more : List LogEntry) (both version other : ℕ)
+    → take both known ≡ take both more → both ≡ min (length known) (length more) → version ≤ length known → other ≤ length more → version ≡ other
+    → tables ≡ catalog_at opening known version → others ≡ catalog_at opening more other → tables ≡ others
+same_tables opening tables others known more both version other alike shorter within along same is are =
+    let less : version ≤ both = omega (arith, shorter, within, along, same) in
+    is ∙ ap (λ (l : List LogEntry). catalog_of opening l)
+    (sym (take-take version both known less) ∙ ap (λ (l : List LogEntry). take version l) alike ∙ take-take version both more less)
+    ∙ ap (λ (n : ℕ). catalog_at opening more n) same ∙ sym are

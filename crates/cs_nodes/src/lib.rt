@@ -12,6 +12,7 @@ pub mod following;
 mod meet;
 mod node;
 pub mod plans;
+mod tables;
 
 pub use crate::following::{NodeFault, NodePush};
 pub use meet::meet_nodes;

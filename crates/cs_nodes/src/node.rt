@@ -20,7 +20,7 @@ ghost use Rattle.cs_value.specs.declared.catalog.TableDef.{TableDef};
 ghost use Rattle.cs_pending.specs.EditLists.{asked_of_edit, table_of_edit};
 ghost use Rattle.cs_nodes.specs.following.Pulls.{IsNextKnown, IsPulledAmong, PullsAll};
 ghost use Rattle.cs_nodes.specs.following.Pushes.{HasTaken, IsAtRest, IsSentAmong, IsSentNext, PushesOn};
-ghost use Rattle.cs_nodes.specs.following.Standing.{Begins, IsBadAt, StandsWhereHonest};
+ghost use Rattle.cs_nodes.specs.following.Standing.{Begins, IsBadAt, StandsWhereHonest, TablesGoOn};
 ghost use Rattle.cs_nodes.specs.declared.following.fault.NodeFault.TheVariants.{BadEntry, Device, Full};
 ghost use Rattle.cs_nodes.specs.declared.following.pushed.NodePush.TheVariants.{Behind, Nothing};
 ghost use Rattle.cs_nodes.specs.Nodes.{IsNode};
@@ -28,6 +28,7 @@ ghost use Rattle.cs_nodes.specs.Nodes.{IsNode};
 use crate::following::{
     NodeFault, NodePush, edit_row, is_at_rest, pull_known, push_known, rows_of,
 };
+use crate::tables::is_at_first;
 use cs_conflict::Picker;
 use cs_opening::OpenFault;
 use cs_pending::EditFault;
@@ -73,6 +74,7 @@ impl<'s, S: RowStore> Node<'s, S> {
         requires id { id < 2 ^ 32 - 1 }
         requires bare { S.contents store ≡ nothing }
         ensures pass { IfOk result (λ node. (node.pass.spine ≡ spine.now) × (node.pass.known ≡ [])) }
+
         ensures catalog { IfOk result (λ node. node.replica.catalog ≡ catalog.now) }
         ensures fresh { IfOk result (λ node. S.honest node.replica.store
             → (node.replica.position ≡ first_position id) × Shows S.contents node.replica empty_view) }
@@ -94,8 +96,8 @@ impl<'s, S: RowStore> Node<'s, S> {
         };
         match Replica::open(alloc, store, catalog, id) {
             Ok(replica) => {
-                // Over an honest store a new replica is at version 0.
-                if replica.version() != 0 {
+                // Over an honest store a new replica is at version 0, and has the handed tables.
+                if !is_at_first(&replica, catalog) {
                     return Err((replica.close(), OpenFault::Damaged));
                 }
                 Ok(Node::new(replica, pass))
@@ -220,20 +222,22 @@ impl<'s, S: RowStore> Node<'s, S> {
         // Those before the one at which it ended were pulled, one after another, of what is known as it ends.
         ensures pulled { S.honest self.new.replica.store → (before : View) → Shows S.contents self.old.replica before
             → PullsAll P.picks self.old.replica.catalog self.new.pass.known result self.old.replica.position before picker.old
-            self.new.replica.position (S.contents self.new.replica.store) picker.new }
+            self.new.replica.catalog self.new.replica.position (S.contents self.new.replica.store) picker.new }
 
         // Each in a commit of its own. Those that were taken stay, however it ended. A stop then leaves what the store holds, or, at an
         // `Err`, that with the next entry taken too. Where nothing was written, it may also leave what it could before.
         ensures writes { WritesInTurn S.RowStore (IsOk result) (result ≡ Err Device)
             (ShowsSomeAt self.old.replica.catalog self.old.replica.position (S.contents self.old.replica.store))
             (IsPulledAmong P.picks self.old.replica.catalog self.new.pass.known self.old.replica.position (S.contents self.old.replica.store) picker.old)
-            (IsNextKnown P.picks self.old.replica.catalog self.new.pass.known self.new.replica.position (S.contents self.new.replica.store))
+            (IsNextKnown P.picks self.new.replica.catalog self.new.pass.known self.new.replica.position (S.contents self.new.replica.store))
             self.old.replica.store self.new.replica.store }
 
         // At `Ok` it has come to the last that is known.
         ensures level { IfOk result (λ count. (self.new.replica.position.version ≡ length self.new.pass.known)
             × (self.new.replica.position.version ≡ self.old.replica.position.version + count)) }
-        ensures catalog { self.new.replica.catalog ≡ self.old.replica.catalog }
+
+        // The tables are those that the entries leave which were taken.
+        ensures catalog { TablesGoOn self.new.pass.known self.old.replica.catalog self.old.replica.position.version self.new.replica.catalog self.new.replica.position.version }
 
         // An entry that is told to be bad isn't defined on the tables that those before it make.
         ensures bad { result ≡ Err BadEntry → S.honest self.new.replica.store
@@ -265,7 +269,7 @@ impl<'s, S: RowStore> Node<'s, S> {
         // What is told, what it has made of the replica, and what the pass knows then.
         ensures pushed { S.honest self.new.replica.store → (before : View) → Shows S.contents self.old.replica before
             → PushesOn P.picks self.old.replica.catalog self.old.pass.known self.old.replica.position before picker.old spine.now.cap result
-            self.new.pass.known self.new.replica.position (S.contents self.new.replica.store) picker.new }
+            self.new.pass.known self.new.replica.catalog self.new.replica.position (S.contents self.new.replica.store) picker.new }
 
         // The push, and what comes of it, are commits of their own. What was made stays, however it ended, at `Full` too. A stop then
         // leaves what the store holds, or, where no entry was taken, that with one commit more. That commit makes the push or takes
@@ -273,7 +277,7 @@ impl<'s, S: RowStore> Node<'s, S> {
         ensures writes { WritesInTurn S.RowStore (HasTaken result) (result ≡ Err Device)
             (ShowsSomeAt self.old.replica.catalog self.old.replica.position (S.contents self.old.replica.store))
             (IsSentAmong P.picks self.old.replica.catalog self.old.replica.position (S.contents self.old.replica.store) picker.old)
-            (IsSentNext P.picks self.old.replica.catalog self.new.pass.known self.new.replica.position (S.contents self.new.replica.store))
+            (IsSentNext P.picks self.new.replica.catalog self.new.pass.known self.new.replica.position (S.contents self.new.replica.store))
             self.old.replica.store self.new.replica.store }
 
         // Nothing is told first, then that it is behind; and nothing has changed then.
@@ -281,7 +285,9 @@ impl<'s, S: RowStore> Node<'s, S> {
         ensures behind { (IsAtRest self.old.replica.position → ⊥) → self.old.replica.position.version < length self.old.pass.known
             → (result ≡ Ok Behind) × (self.new ≡ self.old) }
         ensures full { result ≡ Err Full → length self.old.pass.known ≡ spine.now.cap }
-        ensures catalog { self.new.replica.catalog ≡ self.old.replica.catalog }
+
+        // The tables are those that the entries leave which were taken.
+        ensures catalog { TablesGoOn self.new.pass.known self.old.replica.catalog self.old.replica.position.version self.new.replica.catalog self.new.replica.position.version }
 
         // An entry that is told to be bad isn't defined on the tables that those before it make.
         ensures bad { result ≡ Err BadEntry → S.honest self.new.replica.store

@@ -13,3 +13,4 @@ pub mod Opened
 pub mod OpenLaws
 pub mod CopyingLemmas
 pub mod MovingLemmas
+pub mod Kept

@@ -1,6 +1,6 @@
 -- A store without a log: all that it holds is by the tables that it is judged by.
 use Rattle.std.proofs.Common.{◌≡◌, ℕ, ℤ, List, [], ◌∷◌, length, map, Some, refl, sym, ap, subst, ◌∙◌, arith}
-use Rattle.std.specs.FinMap.{empty, empty_of_len, entries, get, len, len-empty, len-entries}
+use Rattle.std.specs.FinMap.{empty, entries, get, len, len-empty, len-entries}
 use Rattle.std.specs.Ordering.{int_cmp}
 use Rattle.cs_value.specs.declared.catalog.TableDef.{TableDef}
 use Rattle.cs_store.specs.Contents.{Contents, Log, LogItem, StorePlace, log_count}

@@ -1,8 +1,7 @@
 -- What contents hold that show rows, or a replica at a position: changes that lead to their rows, and what their places say.
 use Rattle.std.proofs.Common.{◌≡◌, ◌≤◌, ◌∙◌, ◌+◌, inl, inr, ℕ, suc, List, [], ◌∷◌, Option, Some, None, option_map, arith, length, refl, ap, subst, sym}
 use Rattle.std.specs.Prelude.{ℤ, pos, negsuc, IfSome, slice_get}
-use Rattle.std.specs.FinMap.{empty_of_len, get, get-empty}
-use Rattle.std.specs.Ordering.{int_cmp}
+use Rattle.std.specs.FinMap.{get}
 use Rattle.std.proofs.lemmas.Option.{same_Some, slice_get_cases}
 use Rattle.cs_value.specs.Key.{Place}
 use Rattle.cs_value.specs.declared.catalog.TableDef.{TableDef}
@@ -11,7 +10,7 @@ use Rattle.cs_change.specs.Action.{action, action_any}
 use Rattle.cs_change.specs.Net.{net}
 use Rattle.cs_change.specs.Spelling.{FitsChange, change_spelling}
 use Rattle.cs_change.specs.declared.change.Change.{Change}
-use Rattle.cs_store.specs.Contents.{Contents, Log, stored_pending, stored_tables}
+use Rattle.cs_store.specs.Contents.{Contents, stored_pending, stored_tables}
 use Rattle.cs_store.specs.States.{IsStored}
 use Rattle.cs_store.specs.declared.names.MetaName.TheVariants.{Pending}
 use Rattle.cs_store.specs.Whole.{AtTable, StoresChange, StoresRow}

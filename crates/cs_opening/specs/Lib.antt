@@ -7,3 +7,5 @@ pub mod Laws
 pub mod Steps
 pub mod copying
 pub mod moving
+pub mod Wider
+pub mod WiderLaws

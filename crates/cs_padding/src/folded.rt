@@ -86,8 +86,9 @@ fn push_widened(
     )
 }
 
-/// The edits of a table's pending changes as `widen_pending` gives them, and behind them edits that were to be made of what is pending: those
-/// of the table have the new columns too. What is pending after all of them is what those edits alone would have left, with the new columns.
+/// The edits of a table's pending changes as `widen_pending` gives them, and behind them edits that were to be made of what is pending:
+/// those of the table have the new columns too. What is pending after all of them is what those edits alone would have left, with the new
+/// columns.
 ///
 /// # Errors
 ///

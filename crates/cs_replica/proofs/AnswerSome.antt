@@ -72,33 +72,34 @@ of_answer (Err (BadEntry count)) of = tt
 module _ (shown_next : NextIsShown) {P : Type 0} (picks : P → Clash → Wish → P → Type 0) (is_ready : P → Type 0) (lists : ListHasResult picks is_ready) (told : ToldHasResult picks is_ready) where
   module _ (tables : List TableDef) (old : Contents) (position : Position) (before : View) (p : P) (shows : ShowsAt tables old position before) where
     abbrev Told_of : Answer → Type 0
-    Told_of answer = (result : Result Told AnswerFault) × (other : Position) × (new : Contents) × (q : P) × IsOfAnswer result × Answers picks tables answer result position before p other new q
+    Told_of answer =
+        (result : Result Told AnswerFault) × (others : List TableDef) × (other : Position) × (new : Contents) × (q : P) × IsOfAnswer result × Answers picks tables answer result position before p others other new q
 
     by_accepted : (origin number version : ℕ) → OrNot (IsAccepted position origin number version) → Told_of (Short (short.Accepted origin number version))
     by_accepted origin number version (inl is) =
         let left = shown_next tables old position (position.version + 1) in
-        (Ok (Confirmed version), confirmed position, left.0, p, tt, (inl (is, refl, refl), (left.1 before shows, refl)))
-    by_accepted origin number version (inr other) = (Ok Ignored, position, old, p, tt, (inr (inl (other, refl, refl)), (shows, refl)))
+        (Ok (Confirmed version), tables, confirmed position, left.0, p, tt, (refl, inl (is, refl, refl), (left.1 before shows, refl)))
+    by_accepted origin number version (inr other) = (Ok Ignored, tables, position, old, p, tt, (refl, inr (inl (other, refl, refl)), (shows, refl)))
 
     module _ (are : AreTables tables) (answers : AnswersLawfully picks is_ready) (ready : is_ready p) (origin first next : ℕ) (changeset : List ℕ) (small : AreBytes changeset) where
       by_place : IsForIt position origin first → (next < first) ⊎ (first ≤ next) → (first < next) ⊎ (next ≤ first) → Told_of (Merged origin first next changeset)
-      by_place meant (inl less) order = (Err (BadEntry 0), position, old, p, tt, inr (inr (inl (meant, less, refl, (refl, (shows, refl))))))
-      by_place meant (inr least) (inr most) = (Ok (Taken 0), position, old, p, tt, inr (inl (meant, omega (arith, least, most), refl, (refl, (shows, refl)))))
+      by_place meant (inl less) order = (Err (BadEntry 0), tables, position, old, p, tt, (refl, inr (inr (inl (meant, less, refl, (refl, (shows, refl)))))))
+      by_place meant (inr least) (inr most) = (Ok (Taken 0), tables, position, old, p, tt, (refl, inr (inl (meant, omega (arith, least, most), refl, (refl, (shows, refl))))))
       by_place meant (inr least) (inl above) =
           let one = told tables next changeset old position before p are small (omega (arith, meant.1, above)) shows answers ready in
-          (told_of one.0, one.1, one.2, one.3, of_answer one.0 one.4, inr (inr (inr (meant, above, one.0, refl, one.5))))
+          (told_of one.0, tables, one.1, one.2, one.3, of_answer one.0 one.4, (refl, inr (inr (inr (meant, above, one.0, refl, one.5)))))
 
       by_meant : OrNot (IsForIt position origin first) → Told_of (Merged origin first next changeset)
       by_meant (inl meant) = by_place meant (cases_lt next first) (cases_lt first next)
-      by_meant (inr other) = (Ok Ignored, position, old, p, tt, inl (other, refl, (refl, (shows, refl))))
+      by_meant (inr other) = (Ok Ignored, tables, position, old, p, tt, (refl, inl (other, refl, (refl, (shows, refl)))))
 
   pub answer_has_result : AnswerHasResult picks is_ready
   answer_has_result tables (Short (short.Accepted origin number version)) old position before p are small ranged shows answers ready =
       by_accepted tables old position before p shows origin number version (accepted_or_not position origin number version)
-  answer_has_result tables (Short (short.Stale newest)) old position before p are small ranged shows answers ready = (Ok (Stale newest), position, old, p, tt, (refl, (refl, (shows, refl))))
-  answer_has_result tables (Short (short.Refused code)) old position before p are small ranged shows answers ready = (Ok (Refused code), position, old, p, tt, (refl, (refl, (shows, refl))))
+  answer_has_result tables (Short (short.Stale newest)) old position before p are small ranged shows answers ready = (Ok (Stale newest), tables, position, old, p, tt, (refl, refl, (refl, (shows, refl))))
+  answer_has_result tables (Short (short.Refused code)) old position before p are small ranged shows answers ready = (Ok (Refused code), tables, position, old, p, tt, (refl, refl, (refl, (shows, refl))))
   answer_has_result tables (Entries first entries) old position before p are small ranged shows answers ready =
       let list = lists tables first entries old position before p are small ranged shows answers ready in
-      (told_of list.0, list.1, list.2, list.3, of_answer list.0 list.4, (list.0, refl, list.5))
+      (told_of list.0, list.1, list.2, list.3, list.4, of_answer list.0 list.5, (list.0, refl, list.6))
   answer_has_result tables (Merged origin first next changeset) old position before p are small ranged shows answers ready =
       by_meant tables old position before p shows are answers ready origin first next changeset small (for_it_or_not position origin first)

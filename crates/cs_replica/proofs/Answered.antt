@@ -22,16 +22,17 @@ use Rattle.cs_replica.specs.declared.told.Told.TheVariants.{Ignored}
 
 -- An answer of entries.
 module _ {P S : Type 0} (picks : P → Clash → Wish → P → Type 0) (g : Ghosts S)
-    (tables : List TableDef) (answer : Answer) (first : ℕ) (entries : List ToldEntry) (is : answer ≡ Entries first entries) (position : Position) (old new : S) (p : P) where
-  pub entries_write : (finished device readable : Type 0) (other : Position) → WritesInTurn g finished device readable (IsAmong picks tables first entries position (g.contents old) p) (IsNextOf picks tables first entries other (g.contents new)) old new
-      → WritesInTurn g finished device readable (IsAnsweredAmong picks tables answer position (g.contents old) p) (IsAnsweredNext picks tables answer other (g.contents new)) old new
+    (tables others : List TableDef) (answer : Answer) (first : ℕ) (entries : List ToldEntry) (is : answer ≡ Entries first entries) (position : Position) (old new : S) (p : P) where
+  pub entries_write : (finished device readable : Type 0) (other : Position)
+      → WritesInTurn g finished device readable (IsAmong picks first entries tables position (g.contents old) p) (IsNextOf picks first entries others other (g.contents new)) old new
+      → WritesInTurn g finished device readable (IsAnsweredAmong picks tables answer position (g.contents old) p) (IsAnsweredNext picks others answer other (g.contents new)) old new
   entries_write finished device readable other writes =
-      subst (λ (a : Answer). WritesInTurn g finished device readable (IsAnsweredAmong picks tables a position (g.contents old) p) (IsAnsweredNext picks tables a other (g.contents new)) old new) (sym is) writes
+      subst (λ (a : Answer). WritesInTurn g finished device readable (IsAnsweredAmong picks tables a position (g.contents old) p) (IsAnsweredNext picks others a other (g.contents new)) old new) (sym is) writes
 
-  pub entries_tell : (pulled : Result Pulled AnswerFault) (before : View) (other : Position) (q : P) → PullsList picks tables first entries pulled position before p other (g.contents new) q
-      → Answers picks tables answer (told_of pulled) position before p other (g.contents new) q
+  pub entries_tell : (pulled : Result Pulled AnswerFault) (before : View) (other : Position) (q : P) → PullsList picks first entries pulled tables position before p others other (g.contents new) q
+      → Answers picks tables answer (told_of pulled) position before p others other (g.contents new) q
   entries_tell pulled before other q pulls =
-      subst (λ (a : Answer). Answers picks tables a (told_of pulled) position before p other (g.contents new) q) (sym is) (pulled, refl, pulls)
+      subst (λ (a : Answer). Answers picks tables a (told_of pulled) position before p others other (g.contents new) q) (sym is) (pulled, refl, pulls)
 
 -- An answer of entries that are told together, for this replica.
 module _ {P : Type 0} (picks : P → Clash → Wish → P → Type 0)
@@ -49,8 +50,8 @@ module _ {P : Type 0} (picks : P → Clash → Wish → P → Type 0)
 
   pub merged_tells : (result : Result Told AnswerFault) (before : View) (p q : P) (other : Position) (new : Contents)
       → TellsMerged picks tables position.id position.version next bytes result position before p other new q
-      → Answers picks tables answer result position before p other new q
-  merged_tells result before p q other new tells = subst (λ (a : Answer). Answers picks tables a result position before p other new q) (sym there) tells
+      → Answers picks tables answer result position before p tables other new q
+  merged_tells result before p q other new tells = subst (λ (a : Answer). Answers picks tables a result position before p tables other new q) (sym there) (refl, tells)
 
 -- Changes that are told from the version up to one above it.
 module _ {P S : Type 0} (picks : P → Clash → Wish → P → Type 0) (g : Ghosts S)
@@ -83,6 +84,6 @@ module _ {P S : Type 0} (picks : P → Clash → Wish → P → Type 0) (g : Gho
 -- Changes that aren't for it.
 pub merged_ignored : {P : Type 0} (picks : P → Clash → Wish → P → Type 0) (tables : List TableDef) (answer : Answer) (origin first next : ℕ) (changeset : List ℕ) → answer ≡ Merged origin first next changeset
     → (position : Position) → (IsForIt position origin first → ⊥) → (before : View) (p : P) (new : Contents) → ShowsAt tables new position before
-    → Answers picks tables answer (Ok Ignored) position before p position new p
+    → Answers picks tables answer (Ok Ignored) position before p tables position new p
 merged_ignored picks tables answer origin first next changeset is position away before p new shows =
-    subst (λ (a : Answer). Answers picks tables a (Ok Ignored) position before p position new p) (sym is) (inl (away, refl, (refl, (shows, refl))))
+    subst (λ (a : Answer). Answers picks tables a (Ok Ignored) position before p tables position new p) (sym is) (refl, inl (away, refl, (refl, (shows, refl))))

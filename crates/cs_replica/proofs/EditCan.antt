@@ -327,10 +327,10 @@ module _ (tables : List TableDef) (law : Catalogs tables) (set_fits : SetColumns
 
   -- so it has a result
   ends_so : (asked : Edit) (result : Result View EditFault) → edit tables (table_of_edit asked) (asked_of_edit asked) view ≡ result → CanEnd result
-      → (told : Result (Unit {0}) EditFault) × (after : Member) × IsOfEdit told × IsEditedTo tables asked told (record { position = position; view = view }) after
+      → (told : Result (Unit {0}) EditFault) × (after : Member) × IsOfEdit told × IsEditedTo asked told (record { tables = tables; position = position; view = view }) after
   ends_so asked (Ok next) is (new, shown) =
-      (Ok tt, record { position = with_pending position (len new.pending); view = next }, tt, (len new.pending, next, new, refl, is, shown))
-  ends_so asked (Err fault) is not = (Err fault, record { position = position; view = view }, not, (refl, inr is))
+      (Ok tt, record { tables = tables; position = with_pending position (len new.pending); view = next }, tt, (len new.pending, next, new, refl, is, shown))
+  ends_so asked (Err fault) is not = (Err fault, record { tables = tables; position = position; view = view }, not, (refl, inr is))
 
 asked_ranged : (asked : Edit) → IsInRange asked → AreInRange (asked_of_edit asked)
 asked_ranged (edits.Insert table row) ranged = ranged
@@ -338,6 +338,6 @@ asked_ranged (edits.Update table key fields) ranged = ranged
 asked_ranged (edits.Delete table key) ranged = tt
 
 pub edit_has_result : ((tables : List TableDef) → AreTables tables → Catalogs tables) → SetColumnsFit → EditHasResult
-edit_has_result law set_fits tables asked before are ranged shown =
-    ends_so tables (law tables are) set_fits shown.contents before.position before.view shown.shows asked (edit tables (table_of_edit asked) (asked_of_edit asked) before.view) refl
-    (edit_ends tables (law tables are) set_fits shown.contents before.position before.view shown.shows (table_of_edit asked) (asked_of_edit asked) (asked_ranged asked ranged))
+edit_has_result law set_fits asked before are ranged shown =
+    ends_so before.tables (law before.tables are) set_fits shown.contents before.position before.view shown.shows asked (edit before.tables (table_of_edit asked) (asked_of_edit asked) before.view) refl
+    (edit_ends before.tables (law before.tables are) set_fits shown.contents before.position before.view shown.shows (table_of_edit asked) (asked_of_edit asked) (asked_ranged asked ranged))

@@ -98,19 +98,20 @@ module _ (contents : OneContents) (view : OneView) {P : Type 0} (picks : P → C
       (is ∙ ap told_of one.0 ∙ sym so_is, one.1, one.2, one.3)
 
 pub one_answered : OneContents → OneView → {P : Type 0} (picks : P → Clash → Wish → P → Type 0) → OneList picks → OneTold picks → OneAnswered picks
-one_answered contents view picks law told_law tables (Short (short.Accepted origin number version)) old new last position here there before seen some other p q r are once shows sees of so (told, keeps) (says, stays) =
+one_answered contents view picks law told_law tables wide its (Short (short.Accepted origin number version)) old new last position here there before seen some other p q r are once shows sees of so (wide_is, told, keeps) (its_is, says, stays) =
     let same = accepted_once origin number version position here there some other of so told says in
     let kept = kept_once contents view tables old position before seen shows sees new last here there p q r same.1 keeps stays in
-    (same.0, same.1, kept.0, kept.1)
-one_answered contents view picks law told_law tables (Short (short.Stale newest)) old new last position here there before seen some other p q r are once shows sees of so (told, stays) (says, stay) =
+    (same.0, wide_is ∙ sym its_is, same.1, kept.0, kept.1)
+one_answered contents view picks law told_law tables wide its (Short (short.Stale newest)) old new last position here there before seen some other p q r are once shows sees of so (wide_is, told, stays) (its_is, says, stay) =
     let one = stay_once contents view tables old position before seen shows sees new last here there p q r stays stay in
-    (told ∙ sym says, one.0, one.1, one.2)
-one_answered contents view picks law told_law tables (Short (short.Refused code)) old new last position here there before seen some other p q r are once shows sees of so (told, stays) (says, stay) =
+    (told ∙ sym says, wide_is ∙ sym its_is, one.0, one.1, one.2)
+one_answered contents view picks law told_law tables wide its (Short (short.Refused code)) old new last position here there before seen some other p q r are once shows sees of so (wide_is, told, stays) (its_is, says, stay) =
     let one = stay_once contents view tables old position before seen shows sees new last here there p q r stays stay in
-    (told ∙ sym says, one.0, one.1, one.2)
-one_answered contents view picks law told_law tables (Entries first entries) old new last position here there before seen some other p q r are once shows sees of so (result, told, pulls) (outcome, says, took) =
-    let one = law tables first entries old new last position here there before seen result outcome p q r are once shows sees
+    (told ∙ sym says, wide_is ∙ sym its_is, one.0, one.1, one.2)
+one_answered contents view picks law told_law tables wide its (Entries first entries) old new last position here there before seen some other p q r are once shows sees of so (result, told, pulls) (outcome, says, took) =
+    let one = law tables wide its first entries old new last position here there before seen result outcome p q r are once shows sees
     (of_list result (subst (λ (x : Result Told AnswerFault). IsOfAnswer x) told of)) (of_list outcome (subst (λ (x : Result Told AnswerFault). IsOfAnswer x) says so)) pulls took in
-    (told ∙ ap told_of one.0 ∙ sym says, one.1, one.2, one.3)
-one_answered contents view picks law told_law tables (Merged origin first next changeset) old new last position here there before seen some other p q r are once shows sees of so tells says =
-    merged_once contents view picks told_law tables origin first next changeset old new last position here there before seen some other p q r are once shows sees of so tells says
+    (told ∙ ap told_of one.0 ∙ sym says, one.1, one.2, one.3, one.4)
+one_answered contents view picks law told_law tables wide its (Merged origin first next changeset) old new last position here there before seen some other p q r are once shows sees of so (wide_is, tells) (its_is, says) =
+    let one = merged_once contents view picks told_law tables origin first next changeset old new last position here there before seen some other p q r are once shows sees of so tells says in
+    (one.0, wide_is ∙ sym its_is, one.1, one.2, one.3)

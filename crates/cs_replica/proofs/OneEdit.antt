@@ -18,9 +18,10 @@ use Rattle.cs_exchange.specs.taking.Laws.{OneContents}
 use Rattle.cs_value.specs.Key.{Place}
 use Rattle.cs_value.specs.Same.{same_place}
 use Rattle.cs_value.specs.declared.catalog.TableDef.{TableDef}
-use Rattle.cs_replica.specs.StepLaws.{OneEdited}
+use Rattle.cs_replica.specs.StepLaws.{IsOfEdit, OneEdited}
+use Rattle.cs_value.specs.declared.edit.Edit.{Edit}
 use Rattle.cs_pending.specs.EditLists.{asked_of_edit, table_of_edit}
-use Rattle.cs_replica.specs.Step.{Member}
+use Rattle.cs_replica.specs.Step.{IsEditedTo, Member}
 use Rattle.cs_replica.specs.Same.{IsSameMember, IsSameView}
 
 -- ---- the table with a name is one of the tables
@@ -133,31 +134,55 @@ counts_alike contents tables position other count number left held view seen is 
 
 -- ---- replicas
 
-pub same_as : (tables : List TableDef) (some other one last : Member) → one ≡ some → last ≡ other → IsSameMember tables some other → IsSameMember tables one last
-same_as tables some other one last is so same =
-    subst (λ (m : Member). IsSameMember tables m last) (sym is) (subst (λ (m : Member). IsSameMember tables some m) (sym so) same)
+pub same_as : (some other one last : Member) → one ≡ some → last ≡ other → IsSameMember some other → IsSameMember one last
+same_as some other one last is so same =
+    subst (λ (m : Member). IsSameMember m last) (sym is) (subst (λ (m : Member). IsSameMember some m) (sym so) same)
+
+-- the same replica, by the one's tables
+abbrev pub with_tables : Member → Position → View → Member
+with_tables before place seen = record { tables = before.tables; position = place; view = seen }
+
+pub at_tables : (before its : Member) → IsSameMember before its → its ≡ with_tables before its.position its.view
+at_tables before its same = ap (λ (ts : List TableDef). record { tables = ts; position = its.position; view = its.view }) same.tables
+
+module _ (before : Member) (place : Position) (seen : View) (one last : Member) (is_at : place ≡ before.position) (same : IsSameView before.tables before.view seen) where
+  abbrev its : Member
+  its = with_tables before place seen
+
+  pub same_there : IsSameMember before its
+  same_there = record { tables = refl; position = is_at; view = same }
+
+  one_edited_there : OneContents → (asked : Edit) (some other : Result (Unit {0}) EditFault) → IsOfEdit some → IsOfEdit other → IsEditedTo asked some before one → IsEditedTo asked other its last
+      → (some ≡ other) × IsSameMember one last
+  one_edited_there contents asked (Ok done) (Ok also) of so (count, next, left, is, made, shows) (number, end, held, was, done_so, sees) =
+      let tables = before.tables in
+      let alike : IsSameView tables next end =
+      ends_as tables (edit tables (table_of_edit asked) (asked_of_edit asked) before.view) (edit tables (table_of_edit asked) (asked_of_edit asked) seen) (Ok next) (Ok end) made done_so
+      (edit_alike tables before.view seen same (table_of_edit asked) (asked_of_edit asked)) in (
+        refl,
+        same_as (record before { position = with_pending before.position count; view = next }) (record its { position = with_pending place number; view = end }) one last is was
+            (record { tables = refl; position = counts_alike contents tables before.position place count number left held next end is_at alike shows sees; view = alike }),
+      )
+  one_edited_there contents asked (Ok done) (Err fault) of so (count, next, left, is, made, shows) (still, inl store) = absurd (so store)
+  one_edited_there contents asked (Ok done) (Err fault) of so (count, next, left, is, made, shows) (still, inr refused) =
+      let tables = before.tables in
+      absurd (ends_as tables (edit tables (table_of_edit asked) (asked_of_edit asked) before.view) (edit tables (table_of_edit asked) (asked_of_edit asked) seen) (Ok next) (Err fault) made refused
+      (edit_alike tables before.view seen same (table_of_edit asked) (asked_of_edit asked)))
+  one_edited_there contents asked (Err fault) (Ok done) of so (still, inl store) (count, next, left, is, made, shows) = absurd (of store)
+  one_edited_there contents asked (Err fault) (Ok done) of so (still, inr refused) (count, next, left, is, made, shows) =
+      let tables = before.tables in
+      absurd (ends_as tables (edit tables (table_of_edit asked) (asked_of_edit asked) before.view) (edit tables (table_of_edit asked) (asked_of_edit asked) seen) (Err fault) (Ok next) refused made
+      (edit_alike tables before.view seen same (table_of_edit asked) (asked_of_edit asked)))
+  one_edited_there contents asked (Err fault) (Err other) of so (still, inl store) (stays, why) = absurd (of store)
+  one_edited_there contents asked (Err fault) (Err other) of so (still, inr refused) (stays, inl store) = absurd (so store)
+  one_edited_there contents asked (Err fault) (Err other) of so (still, inr refused) (stays, inr denied) =
+      let tables = before.tables in
+      let faults : fault ≡ other =
+      ends_as tables (edit tables (table_of_edit asked) (asked_of_edit asked) before.view) (edit tables (table_of_edit asked) (asked_of_edit asked) seen) (Err fault) (Err other) refused denied
+      (edit_alike tables before.view seen same (table_of_edit asked) (asked_of_edit asked)) in
+      (ap (λ (f : EditFault). Err f) faults, same_as before its one last still stays same_there)
 
 pub one_edited : OneContents → OneEdited
-one_edited contents tables asked (Ok done) (Ok also) before its one last same of so (count, next, left, is, made, shows) (number, end, held, was, done_so, sees) =
-    let alike : IsSameView tables next end =
-    ends_as tables (edit tables (table_of_edit asked) (asked_of_edit asked) before.view) (edit tables (table_of_edit asked) (asked_of_edit asked) its.view) (Ok next) (Ok end) made done_so
-    (edit_alike tables before.view its.view same.view (table_of_edit asked) (asked_of_edit asked)) in (
-      refl,
-      same_as tables (record { position = with_pending before.position count; view = next }) (record { position = with_pending its.position number; view = end }) one last is was
-          (record { position = counts_alike contents tables before.position its.position count number left held next end same.position alike shows sees; view = alike }),
-    )
-one_edited contents tables asked (Ok done) (Err fault) before its one last same of so (count, next, left, is, made, shows) (still, inl store) = absurd (so store)
-one_edited contents tables asked (Ok done) (Err fault) before its one last same of so (count, next, left, is, made, shows) (still, inr refused) =
-    absurd (ends_as tables (edit tables (table_of_edit asked) (asked_of_edit asked) before.view) (edit tables (table_of_edit asked) (asked_of_edit asked) its.view) (Ok next) (Err fault) made refused
-    (edit_alike tables before.view its.view same.view (table_of_edit asked) (asked_of_edit asked)))
-one_edited contents tables asked (Err fault) (Ok done) before its one last same of so (still, inl store) (count, next, left, is, made, shows) = absurd (of store)
-one_edited contents tables asked (Err fault) (Ok done) before its one last same of so (still, inr refused) (count, next, left, is, made, shows) =
-    absurd (ends_as tables (edit tables (table_of_edit asked) (asked_of_edit asked) before.view) (edit tables (table_of_edit asked) (asked_of_edit asked) its.view) (Err fault) (Ok next) refused made
-    (edit_alike tables before.view its.view same.view (table_of_edit asked) (asked_of_edit asked)))
-one_edited contents tables asked (Err fault) (Err other) before its one last same of so (still, inl store) (stays, why) = absurd (of store)
-one_edited contents tables asked (Err fault) (Err other) before its one last same of so (still, inr refused) (stays, inl store) = absurd (so store)
-one_edited contents tables asked (Err fault) (Err other) before its one last same of so (still, inr refused) (stays, inr denied) =
-    let faults : fault ≡ other =
-    ends_as tables (edit tables (table_of_edit asked) (asked_of_edit asked) before.view) (edit tables (table_of_edit asked) (asked_of_edit asked) its.view) (Err fault) (Err other) refused denied
-    (edit_alike tables before.view its.view same.view (table_of_edit asked) (asked_of_edit asked)) in
-    (ap (λ (f : EditFault). Err f) faults, same_as tables before its one last still stays same)
+one_edited contents asked some other before its one last same of so is was =
+    one_edited_there before its.position its.view one last same.position same.view contents asked some other of so is
+    (subst (λ (m : Member). IsEditedTo asked other m last) (at_tables before its same) was)

@@ -11,9 +11,12 @@ use Rattle.cs_pending.specs.View.{View}
 use Rattle.cs_pending.specs.declared.fault.EditFault.{EditFault}
 use Rattle.cs_pending.specs.declared.fault.EditsFault.TheVariants.{Memory, Device, Refused}
 use Rattle.cs_replica.specs.Edited.{with_pending}
-use Rattle.cs_replica.specs.Same.{IsSameView}
-use Rattle.cs_replica.specs.StepLaws.{OneEditedAll}
-use Rattle.cs_replica.proofs.OneEdit.{EndAlike, counts_alike, edit_alike, ends_as, same_as}
+use Rattle.cs_replica.specs.Same.{IsSameMember, IsSameView}
+use Rattle.cs_replica.specs.StepLaws.{AreOfEdits, OneEditedAll}
+use Rattle.cs_replica.specs.Step.{AreEditedTo, Member}
+use Rattle.cs_pending.specs.declared.fault.EditsFault.{EditsFault}
+use Rattle.cs_pending.specs.declared.position.position.Position.{Position}
+use Rattle.cs_replica.proofs.OneEdit.{EndAlike, at_tables, counts_alike, edit_alike, ends_as, same_as, same_there, with_tables}
 
 module _ (tables : List TableDef) where
   abbrev made : Edit → View → Result View EditFault
@@ -59,22 +62,35 @@ module _ (tables : List TableDef) where
       let one = one_refusal edits at place asked also next reached between middle fault other (alike first view seen (Ok next) (Ok reached) same led so) rest there refused others here denied in
       (ap suc one.0, one.1)
 
+module _ (before : Member) (place : Position) (seen : View) (one last : Member) (is_at : place ≡ before.position) (same : IsSameView before.tables before.view seen) where
+  abbrev its : Member
+  its = with_tables before place seen
+
+  all_edited_there : OneContents → (edits : List Edit) (some other : Result (Unit {0}) EditsFault) → AreOfEdits some → AreOfEdits other → AreEditedTo edits some before one → AreEditedTo edits other its last
+      → (some ≡ other) × IsSameMember one last
+  all_edited_there contents edits (Ok done) (Ok also) of so (count, next, left, is, led, shows) (number, end, held, was, done_so, sees) =
+      let tables = before.tables in
+      let alike : IsSameView tables next end = edits_alike tables edits before.view seen next end same led done_so in (
+        refl,
+        same_as (record before { position = with_pending before.position count; view = next }) (record its { position = with_pending place number; view = end }) one last is was
+            (record { tables = refl; position = counts_alike contents tables before.position place count number left held next end is_at alike shows sees; view = alike }),
+      )
+  all_edited_there contents edits (Ok done) (Err (Refused at fault)) of so (count, next, left, is, led, shows) (still, why) =
+      absurd (apart before.tables edits at why.asked before.view seen next why.between fault same led why.edited why.there why.refused)
+  all_edited_there contents edits (Err (Refused at fault)) (Ok done) of so (still, why) (count, next, left, is, led, shows) =
+      let back : IsSameView before.tables seen before.view = record { rows = λ n k. sym (same.rows n k); pending = λ table key there. sym (same.pending table key there) } in
+      absurd (apart before.tables edits at why.asked seen before.view next why.between fault back led why.edited why.there why.refused)
+  all_edited_there contents edits (Err (Refused at fault)) (Err (Refused place_of other)) of so (still, why) (stays, because) =
+      let refusal = one_refusal before.tables edits at place_of why.asked because.asked before.view seen why.between because.between fault other same why.edited why.there why.refused because.edited because.there because.refused in (
+        ap (λ (n : ℕ). Err (Refused n fault)) refusal.0 ∙ ap (λ (f : EditFault). Err (Refused place_of f)) refusal.1,
+        same_as before its one last still stays (same_there before place seen one last is_at same),
+      )
+  all_edited_there contents edits (Err Memory) other of so first second = absurd of
+  all_edited_there contents edits (Err Device) other of so first second = absurd of
+  all_edited_there contents edits some (Err Memory) of so first second = absurd so
+  all_edited_there contents edits some (Err Device) of so first second = absurd so
+
 pub one_edited_all : OneContents → OneEditedAll
-one_edited_all contents tables edits (Ok done) (Ok also) before its one last same of so (count, next, left, is, led, shows) (number, end, held, was, done_so, sees) =
-    let alike : IsSameView tables next end = edits_alike tables edits before.view its.view next end same.view led done_so in (
-      refl,
-      same_as tables (record { position = with_pending before.position count; view = next }) (record { position = with_pending its.position number; view = end }) one last is was
-          (record { position = counts_alike contents tables before.position its.position count number left held next end same.position alike shows sees; view = alike }),
-    )
-one_edited_all contents tables edits (Ok done) (Err (Refused at fault)) before its one last same of so (count, next, left, is, led, shows) (still, why) =
-    absurd (apart tables edits at why.asked before.view its.view next why.between fault same.view led why.edited why.there why.refused)
-one_edited_all contents tables edits (Err (Refused at fault)) (Ok done) before its one last same of so (still, why) (count, next, left, is, led, shows) =
-    let back : IsSameView tables its.view before.view = record { rows = λ n k. sym (same.view.rows n k); pending = λ table key there. sym (same.view.pending table key there) } in
-    absurd (apart tables edits at why.asked its.view before.view next why.between fault back led why.edited why.there why.refused)
-one_edited_all contents tables edits (Err (Refused at fault)) (Err (Refused place other)) before its one last same of so (still, why) (stays, because) =
-    let refusal = one_refusal tables edits at place why.asked because.asked before.view its.view why.between because.between fault other same.view why.edited why.there why.refused because.edited because.there because.refused in
-    (ap (λ (n : ℕ). Err (Refused n fault)) refusal.0 ∙ ap (λ (f : EditFault). Err (Refused place f)) refusal.1, same_as tables before its one last still stays same)
-one_edited_all contents tables edits (Err Memory) other before its one last same of so first second = absurd of
-one_edited_all contents tables edits (Err Device) other before its one last same of so first second = absurd of
-one_edited_all contents tables edits some (Err Memory) before its one last same of so first second = absurd so
-one_edited_all contents tables edits some (Err Device) before its one last same of so first second = absurd so
+one_edited_all contents edits some other before its one last same of so is was =
+    all_edited_there before its.position its.view one last same.position same.view contents edits some other of so is
+    (subst (λ (m : Member). AreEditedTo edits other m last) (at_tables before its same) was)

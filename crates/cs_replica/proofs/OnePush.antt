@@ -15,9 +15,10 @@ use Rattle.cs_exchange.specs.declared.pushing.fault.PushFault.TheVariants.{Devic
 use Rattle.cs_value.specs.declared.catalog.TableDef.{TableDef}
 use Rattle.cs_wire.specs.Requests.{Asked}
 use Rattle.cs_replica.specs.StepLaws.{IsOfPushed, OnePushed, OneResent}
-use Rattle.cs_replica.specs.Step.{IsAskedAgain, Member}
+use Rattle.cs_value.specs.Catalog.{AreTables}
+use Rattle.cs_replica.specs.Step.{IsAskedAgain, IsPushAsked, Member}
 use Rattle.cs_replica.specs.Same.{IsSameMember, IsSameView, IsShown}
-use Rattle.cs_replica.proofs.OneEdit.{same_as}
+use Rattle.cs_replica.proofs.OneEdit.{at_tables, same_as, same_there, with_tables}
 
 -- ---- what is pending, and the fault that it has
 
@@ -40,34 +41,44 @@ fault_as tables view seen same Spent position (some, none, last) = (λ nothing. 
 fault_as tables view seen same TooLarge position (some, none, small, (changes, pending, large)) =
     (λ nothing. some (pending_as tables seen view (turned tables view seen same) [] nothing), none, small, (changes, pending_as tables view seen same changes pending, large))
 
--- the fault of the same replica
-fault_of : (tables : List TableDef) (member other : Member) → IsSameMember tables member other → (fault : PushFault) → IsPushFault fault tables other.position other.view → IsPushFault fault tables member.position member.view
-fault_of tables member other same fault is =
-    fault_as tables member.view other.view same.view fault member.position (subst (λ (p : Position). IsPushFault fault tables p other.view) same.position is)
-
-back : (tables : List TableDef) (member other : Member) → IsSameMember tables member other → IsSameMember tables other member
-back tables member other same = record { position = sym same.position; view = turned tables member.view other.view same.view }
-
 -- ---- a push is made
 
+module _ (before : Member) (place : Position) (seen : View) (one last : Member) (is_at : place ≡ before.position) (same : IsSameView before.tables before.view seen) where
+  abbrev its : Member
+  its = with_tables before place seen
+
+  -- the fault of the same replica
+  fault_of : (fault : PushFault) → IsPushFault fault before.tables place seen → IsPushFault fault before.tables before.position before.view
+  fault_of fault is = fault_as before.tables before.view seen same fault before.position (subst (λ (p : Position). IsPushFault fault before.tables p seen) is_at is)
+
+  fault_back : (fault : PushFault) → IsPushFault fault before.tables before.position before.view → IsPushFault fault before.tables place seen
+  fault_back fault is =
+      fault_as before.tables seen before.view (turned before.tables before.view seen same) fault place (subst (λ (p : Position). IsPushFault fault before.tables p before.view) (sym is_at) is)
+
+  pushed_there : OnePending → OnePushFault → NoFaultWhereMade → (some other : Result Asked PushFault) → AreTables before.tables → IsOfPushed some → IsOfPushed other → IsPushAsked some before one → IsPushAsked other its last
+      → (some ≡ other) × IsSameMember one last
+  pushed_there pending fault made (Ok request) (Ok other) are of so (changes, left, is, makes, asks) (others, held, was, did, asked) =
+      let alike : changes ≡ others = pending before.tables before.view.pending changes others are makes.pending (pending_as before.tables before.view seen same others did.pending) in
+      let positions : pushed place others ≡ pushed before.position changes = ap (λ (p : Position). pushed p others) is_at ∙ ap (pushed before.position) (sym alike) in
+      let requests : request_of (pushed before.position changes) changes ≡ request_of (pushed place others) others =
+      ap (λ (cs : List TableChanges). request_of (pushed before.position cs) cs) alike ∙ ap (λ (p : Position). request_of (pushed p others) others) (sym is_at) in
+      let both : request ≡ other = asks ∙ (requests ∙ sym asked) in (
+        ap (λ (a : Asked). Ok a) both,
+        same_as (record before { position = pushed before.position changes; view = grounded before.view }) (record its { position = pushed place others; view = grounded seen }) one last is was
+            (record { tables = refl; position = positions; view = record { rows = same.rows; pending = λ table key inside. refl } }),
+      )
+  pushed_there pending fault made (Ok request) (Err why) are of so (changes, left, is, makes, asks) (stays, refused) =
+      absurd (made before.tables before.position before.view left changes why are makes so (fault_of why refused))
+  pushed_there pending fault made (Err why) (Ok request) are of so (stays, refused) (changes, left, is, makes, asks) =
+      absurd (made before.tables place seen left changes why are makes of (fault_back why refused))
+  pushed_there pending fault made (Err why) (Err other) are of so (still, refused) (stays, denied) =
+      let both : why ≡ other = fault before.tables before.position before.view why other of so refused (fault_of other denied) in
+      (ap (λ (f : PushFault). Err f) both, same_as before its one last still stays (same_there before place seen one last is_at same))
+
 pub one_pushed : OnePending → OnePushFault → NoFaultWhereMade → OnePushed
-one_pushed pending fault made tables (Ok request) (Ok other) before its one last are same of so (changes, left, is, makes, asks) (others, held, was, did, asked) =
-    let alike : changes ≡ others = pending tables before.view.pending changes others are makes.pending (pending_as tables before.view its.view same.view others did.pending) in
-    let positions : pushed its.position others ≡ pushed before.position changes = ap (λ (p : Position). pushed p others) same.position ∙ ap (pushed before.position) (sym alike) in
-    let requests : request_of (pushed before.position changes) changes ≡ request_of (pushed its.position others) others =
-    ap (λ (cs : List TableChanges). request_of (pushed before.position cs) cs) alike ∙ ap (λ (p : Position). request_of (pushed p others) others) (sym same.position) in
-    let both : request ≡ other = asks ∙ (requests ∙ sym asked) in (
-      ap (λ (a : Asked). Ok a) both,
-      same_as tables (record { position = pushed before.position changes; view = grounded before.view }) (record { position = pushed its.position others; view = grounded its.view }) one last is was
-          (record { position = positions; view = record { rows = same.view.rows; pending = λ table key inside. refl } }),
-    )
-one_pushed pending fault made tables (Ok request) (Err why) before its one last are same of so (changes, left, is, makes, asks) (stays, refused) =
-    absurd (made tables before.position before.view left changes why are makes so (fault_of tables before its same why refused))
-one_pushed pending fault made tables (Err why) (Ok request) before its one last are same of so (stays, refused) (changes, left, is, makes, asks) =
-    absurd (made tables its.position its.view left changes why are makes of (fault_of tables its before (back tables before its same) why refused))
-one_pushed pending fault made tables (Err why) (Err other) before its one last are same of so (still, refused) (stays, denied) =
-    let both : why ≡ other = fault tables before.position before.view why other of so refused (fault_of tables before its same other denied) in
-    (ap (λ (f : PushFault). Err f) both, same_as tables before its one last still stays same)
+one_pushed pending fault made some other before its one last are same of so is was =
+    pushed_there before its.position its.view one last same.position same.view pending fault made some other are of so is
+    (subst (λ (m : Member). IsPushAsked other m last) (at_tables before its same) was)
 
 -- ---- and asked for once more
 
@@ -83,16 +94,16 @@ nothing_resent TooLarge position of size is = absurd (omega (arith, size, is))
 none_flies : (flight : Option (List TableChanges)) → flight ≡ None → IsSome flight → ⊥
 none_flies flight none some = let is = subst (λ (f : Option (List TableChanges)). IsSome f) none some in absurd cc
 
-asked_once : (tables : List TableDef) (some other : Result Asked PushFault) (member : Member) → IsShown tables member → IsOfPushed some → IsOfPushed other → IsAskedAgain some member.position → IsAskedAgain other member.position → some ≡ other
-asked_once tables (Ok request) (Ok other) member shown of so (flies, asks) (flew, asked) = ap (λ (a : Asked). Ok a) (asks ∙ sym asked)
-asked_once tables (Ok request) (Err why) member shown of so (flies, asks) refused =
+asked_once : (some other : Result Asked PushFault) (member : Member) → IsShown member → IsOfPushed some → IsOfPushed other → IsAskedAgain some member.position → IsAskedAgain other member.position → some ≡ other
+asked_once (Ok request) (Ok other) member shown of so (flies, asks) (flew, asked) = ap (λ (a : Asked). Ok a) (asks ∙ sym asked)
+asked_once (Ok request) (Err why) member shown of so (flies, asks) refused =
     absurd (none_flies member.position.flight (nothing_resent why member.position so shown.shows.under_way.size refused).1 flies)
-asked_once tables (Err why) (Ok request) member shown of so refused (flies, asks) =
+asked_once (Err why) (Ok request) member shown of so refused (flies, asks) =
     absurd (none_flies member.position.flight (nothing_resent why member.position of shown.shows.under_way.size refused).1 flies)
-asked_once tables (Err why) (Err other) member shown of so refused denied =
+asked_once (Err why) (Err other) member shown of so refused denied =
     ap (λ (f : PushFault). Err f)
     ((nothing_resent why member.position of shown.shows.under_way.size refused).0 ∙ sym (nothing_resent other member.position so shown.shows.under_way.size denied).0)
 
 pub one_resent : OneResent
-one_resent tables some other before its shown same of so asks again =
-    asked_once tables some other before shown of so asks (subst (λ (p : Position). IsAskedAgain other p) same.position again)
+one_resent some other before mine shown same of so asks again =
+    asked_once some other before shown of so asks (subst (λ (p : Position). IsAskedAgain other p) same.position again)

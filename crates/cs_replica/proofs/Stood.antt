@@ -1,21 +1,18 @@
 -- Replicas that stand on a log.
-use Rattle.std.proofs.Common.{◌≡◌, ◌≤◌, ◌+◌, ℕ, zero, suc, List, [], ◌∷◌, map, take, drop, Option, Some, None, length, option_map, refl, sym, ap, subst, ◌∙◌, arith, length-append}
-use Rattle.std.specs.Prelude.{All, slice_get, Contains, pos}
+use Rattle.std.proofs.Common.{◌≡◌, ◌≤◌, ℕ, List, [], Option, Some, None, length, option_map, refl, sym, ap, subst, ◌∙◌, arith, length-append}
+use Rattle.std.specs.Prelude.{slice_get, Contains, pos}
 use Rattle.std.specs.FinMap.{empty, empty_of_len, get, get-empty}
-use Rattle.std.proofs.lemmas.List.{drop-take, get_or_default}
-use Rattle.std.proofs.lemmas.List.Elements.{All-cons, All-nil}
+use Rattle.std.proofs.lemmas.List.{get_or_default}
 use Rattle.std.proofs.lemmas.Option.{same_Some, slice_get_within, slice_get-get_or}
-use Rattle.cs_value.specs.Key.{Place}
 use Rattle.cs_value.specs.declared.catalog.TableDef.{TableDef}
 use Rattle.cs_change.specs.Action.{action_any, after_any}
 use Rattle.cs_change.specs.Spelling.{change_spelling}
 use Rattle.cs_change.specs.declared.change.Change.{Change}
 use Rattle.cs_normal.specs.Normal.{FitsCatalog, change_of}
-use Rattle.cs_normal.specs.State.{AreApplied, AreSame, IsApplied, NetIsApplied, State}
+use Rattle.cs_normal.specs.State.{AreSame, IsApplied, NetIsApplied, State}
 use Rattle.cs_normal.specs.declared.normal.TableChanges.{TableChanges}
-use Rattle.cs_store.specs.log.Entry.{WidensNone, entry_changes}
-use Rattle.cs_store.specs.log.Laws.{LongerLog, NoneWidens, PlainSlices}
-use Rattle.cs_store.specs.log.Log.{IsLog, catalog_at, entries_between, tables_at}
+use Rattle.cs_store.specs.log.Laws.{EntryLeads, LongerLog}
+use Rattle.cs_store.specs.log.Log.{tables_at}
 use Rattle.cs_store.specs.declared.log.entry.LogEntry.{LogEntry}
 use Rattle.cs_store.specs.Contents.{Bodies, Contents, place_cmp, stored_pending}
 use Rattle.cs_pending.specs.Laws.{EditKeepsBefore}
@@ -64,11 +61,6 @@ kept_stands log position other view next version same stands = record {
 
 -- ---- one entry, or several
 
-one_there : (log : List LogEntry) (version : ℕ) (entry : LogEntry) → slice_get log version ≡ Some entry → take 1 (drop version log) ≡ entry ∷ []
-one_there [] version entry is = absurd cc
-one_there (first ∷ log) zero entry is = ap (λ (e : LogEntry). e ∷ []) (same_Some first entry is)
-one_there (first ∷ log) (suc version) entry is = one_there log version entry is
-
 -- what a changeset leaves of the same rows is the same
 one_left : (tables others : List TableDef) (changes : List TableChanges) (some other : State) (end left : State) → AreSame some other → IsApplied tables changes some end → IsApplied others changes other left → AreSame end left
 one_left tables others changes some other end left same one two n k =
@@ -87,25 +79,14 @@ lead_there tables others log next changes position other view left within leads 
 pub lead_stands : LeadStands
 lead_stands tables = lead_there tables tables
 
-abbrev IsPlain : LogEntry → Type 0
-IsPlain entry = WidensNone entry.body
-
--- what one entry makes of the log's rows there is those at the next version
-entry_leads : PlainSlices → NoneWidens → (tables : List TableDef) (log : List LogEntry) (version : ℕ) (entry : LogEntry) → IsLog tables log → slice_get log version ≡ Some entry → version + 1 ≤ length log
-    → IsApplied (catalog_at tables log version) (entry_changes entry) (tables_at log version) (tables_at log (version + 1))
-entry_leads law none tables log version entry is at within =
-    let plain : WidensNone entry.body = none (catalog_at tables (take version log) (length (take version log))) entry.body (is version entry at).widens in
-    let one : entries_between log version (version + 1) ≡ entry ∷ [] = drop-take version 1 log ∙ one_there log version entry at in
-    let slice = subst (λ (es : List LogEntry). AreApplied (catalog_at tables log version) (map entry_changes es) (tables_at log version) (tables_at log (version + 1))) one
-    (law tables log version (version + 1) is (omega arith) (subst (All IsPlain) (sym one) (All-cons IsPlain entry [] plain (All-nil IsPlain)))) in
-    (slice.1.0, λ n k. slice.1.1 n k ∙ ap (λ (p : Place). Some p) (sym (slice.2 n k)))
-
-pub entry_stands : PlainSlices → NoneWidens → EntryStands
-entry_stands law none tables log entry position other view next is at version applied stands =
-    let within = slice_get_within log position.version entry at in
-    let room : position.version + 1 ≤ length log = omega (arith, within) in
-    lead_there (catalog_at tables log position.version) tables log (position.version + 1) (entry_changes entry) position other view next room
-    (entry_leads law none tables log position.version entry is at room) version applied stands
+-- what makes of the log's rows what the entry at the version makes of them
+pub entry_stands : EntryLeads → EntryStands
+entry_stands leads opening log entry position other view next at version made stands = record {
+  within = (let within = slice_get_within log position.version entry at in omega (arith, within, version));
+  on_tables = λ n k.
+      leads opening log position.version entry (base position.flight view) (base other.flight next) at stands.on_tables made n k
+      ∙ ap (λ (v : ℕ). tables_at log v n k) (sym version);
+}
 
 -- ---- what is under way
 

@@ -7,7 +7,7 @@ use Rattle.cs_pending.specs.View.{View}
 use Rattle.cs_pending.specs.position.Shows.{ShowsAt, ShowsSomeAt}
 use Rattle.cs_pending.specs.declared.position.position.Position.{Position}
 
--- a store, the tables that are synced, and where the replica stands
+-- a store, the tables that are synced as they are now, and where the replica stands
 pub record Holding (S : Type 0) : Type 0 where
   pub store : S
   pub catalog : List TableDef

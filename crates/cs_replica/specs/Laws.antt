@@ -6,8 +6,7 @@ use Rattle.cs_value.specs.Catalog.{AreTables}
 use Rattle.cs_value.specs.declared.catalog.TableDef.{TableDef}
 use Rattle.cs_normal.specs.State.{AreSame, IsApplied}
 use Rattle.cs_normal.specs.declared.normal.TableChanges.{TableChanges}
-use Rattle.cs_store.specs.log.Entry.{entry_changes}
-use Rattle.cs_store.specs.log.Log.{IsLog, tables_at}
+use Rattle.cs_store.specs.log.Log.{IsMade, catalog_at, tables_at}
 use Rattle.cs_store.specs.declared.log.entry.LogEntry.{LogEntry}
 use Rattle.cs_store.specs.Contents.{Contents}
 use Rattle.cs_conflict.specs.declared.clash.Clash.{Clash}
@@ -63,15 +62,14 @@ KeptStands =
     → StandsOn log position view
     → StandsOn log other next
 
--- what leaves of the log's rows what the next entry leaves of them stands on the log one version further. That is the own entry
--- that is confirmed, and another's that is taken
+-- what makes of the log's rows what the next entry makes of them, by the catalog at the version, stands on the log one version further.
+-- That is the own entry that is confirmed, and another's that is taken
 abbrev pub EntryStands : Type 0
 EntryStands =
-    (tables : List TableDef) (log : List LogEntry) (entry : LogEntry) (position other : Position) (view next : View)
-    → IsLog tables log
+    (opening : List TableDef) (log : List LogEntry) (entry : LogEntry) (position other : Position) (view next : View)
     → slice_get log position.version ≡ Some entry
     → other.version ≡ position.version + 1
-    → IsApplied tables (entry_changes entry) (base position.flight view) (base other.flight next)
+    → IsMade (catalog_at opening log position.version) entry.body (base position.flight view) (base other.flight next)
     → StandsOn log position view
     → StandsOn log other next
 
@@ -119,11 +117,11 @@ IsOfAnswer (Err (Memory count)) = ⊥
 IsOfAnswer (Err (Device count)) = ⊥
 IsOfAnswer (Err (BadEntry count)) = Unit {0}
 
--- by a picker that answers each clash once, an answer of the hub has one result. It leaves one position, one thing in the store, and
--- one state of the picker, whichever view of the store is meant
+-- by a picker that answers each clash once, an answer of the hub has one result. It leaves one list of tables, one position, one thing in
+-- the store, and one state of the picker, whichever view of the store is meant
 abbrev pub OneAnswered : {P : Type 0} → (P → Clash → Wish → P → Type 0) → Type 0
 OneAnswered {P} picks =
-    (tables : List TableDef) (answer : Answer) (old new last : Contents) (position here there : Position) (before seen : View)
+    (tables wide its : List TableDef) (answer : Answer) (old new last : Contents) (position here there : Position) (before seen : View)
     (some other : Result Told AnswerFault) (p q r : P)
     → AreTables tables
     → PicksOnce picks
@@ -131,9 +129,9 @@ OneAnswered {P} picks =
     → ShowsAt tables old position seen
     → IsOfAnswer some
     → IsOfAnswer other
-    → Answers picks tables answer some position before p here new q
-    → Answers picks tables answer other position seen p there last r
-    → (some ≡ other) × (here ≡ there) × (new ≡ last) × (q ≡ r)
+    → Answers picks tables answer some position before p wide here new q
+    → Answers picks tables answer other position seen p its there last r
+    → (some ≡ other) × (wide ≡ its) × (here ≡ there) × (new ≡ last) × (q ≡ r)
 
 -- the bodies of its entries are bytes, or its changeset is
 abbrev pub IsInBytes : Answer → Type 0
@@ -152,5 +150,5 @@ AnswerHasResult {P} picks is_ready =
     → ShowsAt tables old position before
     → AnswersLawfully picks is_ready
     → is_ready p
-    → (result : Result Told AnswerFault) × (other : Position) × (new : Contents) × (q : P) × IsOfAnswer result
-    × Answers picks tables answer result position before p other new q
+    → (result : Result Told AnswerFault) × (others : List TableDef) × (other : Position) × (new : Contents) × (q : P) × IsOfAnswer result
+    × Answers picks tables answer result position before p others other new q

@@ -16,7 +16,7 @@ CallLeaves g failed old new =
     g.honest new.store → AreTables old.catalog → FitsPosition old.position → (view : View) → Shows g.contents old view
     → (left : Contents) → g.may_leave new.store left
     → (left ≡ g.contents new.store)
-    ⊎ ((g.may_leave old.store left × (g.contents new.store ≡ g.contents old.store) × (new.position ≡ old.position))
+    ⊎ ((g.may_leave old.store left × (g.contents new.store ≡ g.contents old.store) × (new.catalog ≡ old.catalog) × (new.position ≡ old.position))
     ⊎ failed new.position (g.contents new.store) left)
 
 -- the count of failures doesn't fall, and where a failed device is told it rose

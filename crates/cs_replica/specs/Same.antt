@@ -12,12 +12,13 @@ pub record IsSameView (tables : List TableDef) (view other : View) : Type 0 wher
   pub rows : AreSame view.tables other.tables
   pub pending : (table : TableDef) (key : List ℕ) → Contains tables table → other.pending table.name key ≡ view.pending table.name key
 
--- they stand at one place, and have the same rows and pending changes
-pub record IsSameMember (tables : List TableDef) (member other : Member) : Type 0 where
+-- they have the same tables, stand at one place, and have the same rows and pending changes
+pub record IsSameMember (member other : Member) : Type 0 where
+  pub tables : other.tables ≡ member.tables
   pub position : other.position ≡ member.position
-  pub view : IsSameView tables member.view other.view
+  pub view : IsSameView member.tables member.view other.view
 
 -- some store shows it
-pub record IsShown (tables : List TableDef) (member : Member) : Type 0 where
+pub record IsShown (member : Member) : Type 0 where
   pub contents : Contents
-  pub shows : ShowsAt tables contents member.position member.view
+  pub shows : ShowsAt member.tables contents member.position member.view

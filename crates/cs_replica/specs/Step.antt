@@ -31,30 +31,30 @@ use Rattle.cs_wire.specs.declared.answer.Answer.{Answer}
 use Rattle.cs_wire.specs.declared.request.RequestBuf.{RequestBuf}
 use Rattle.cs_conflict.specs.wish_list.Wished.{IsWished}
 
--- a replica: where it stands, and its rows and pending changes
+-- a replica: its tables, where it stands, and its rows and pending changes
 pub record Member : Type 0 where
+  pub tables : List TableDef
   pub position : Position
   pub view : View
 
 -- the replica, where its store shows these rows and pending changes
 abbrev pub member_of : {S : Type 0} → Holding S → View → Member
-member_of held view = record { position = held.position; view = view }
+member_of held view = record { tables = held.catalog; position = held.position; view = view }
 
 -- where its store is honest, what it showed has made this step. The numbers of where it stands stay in range
 pub record Turns {S : Type 0} (g : Ghosts S) (step : Member → Member → Type 0) (old new : Holding S) : Type 0 where
   pub was_honest : g.honest new.store → g.honest old.store
-  pub catalog : new.catalog ≡ old.catalog
   pub turned : g.honest new.store → AreTables old.catalog → FitsPosition old.position → (view : View) → Shows g.contents old view
       → (next : View) × Shows g.contents new next × FitsPosition new.position × step (member_of old view) (member_of new next)
 
 -- ---- an edit
 
 -- the view made a step, and so many changes are pending then; or not, and this is why
-abbrev pub StepsTo : {E : Type 0} → List TableDef → (View → View → Type 0) → (E → View → Type 0) → Result (Unit {0}) E → Member → Member → Type 0
-StepsTo tables step refused (Ok done) before after =
-    (count : ℕ) × (next : View) × (left : Contents) × (after ≡ record { position = with_pending before.position count; view = next })
-    × step before.view next × ShowsAt tables left (with_pending before.position count) next
-StepsTo tables step refused (Err fault) before after = (after ≡ before) × refused fault before.view
+abbrev pub StepsTo : {E : Type 0} → (View → View → Type 0) → (E → View → Type 0) → Result (Unit {0}) E → Member → Member → Type 0
+StepsTo step refused (Ok done) before after =
+    (count : ℕ) × (next : View) × (left : Contents) × (after ≡ record before { position = with_pending before.position count; view = next })
+    × step before.view next × ShowsAt before.tables left (with_pending before.position count) next
+StepsTo step refused (Err fault) before after = (after ≡ before) × refused fault before.view
 
 -- contents in which an edit is made, at a position
 abbrev pub IsEditedBy : List TableDef → Edit → Position → Contents → Contents → Type 0
@@ -64,27 +64,27 @@ IsEditedBy tables asked position now left = IsEditedIn tables position (table_of
 abbrev pub IsEditFault : List TableDef → Edit → EditFault → View → Type 0
 IsEditFault tables asked fault view = IsOfStore fault ⊎ (edited_view tables (table_of_edit asked) (asked_of_edit asked) view ≡ Err fault)
 
-abbrev pub IsEditedTo : List TableDef → Edit → Result (Unit {0}) EditFault → Member → Member → Type 0
-IsEditedTo tables asked result before after =
-    StepsTo tables (Leads (edited_view tables (table_of_edit asked) (asked_of_edit asked))) (IsEditFault tables asked) result before after
+abbrev pub IsEditedTo : Edit → Result (Unit {0}) EditFault → Member → Member → Type 0
+IsEditedTo asked result before after =
+    StepsTo (Leads (edited_view before.tables (table_of_edit asked) (asked_of_edit asked))) (IsEditFault before.tables asked) result before after
 
 -- the same of several, one behind another
 abbrev pub AreEditedBy : List TableDef → List Edit → Position → Contents → Contents → Type 0
 AreEditedBy tables edits position now left = IsSteppedIn tables position (AreEdited tables edits) now left
 
-abbrev pub AreEditedTo : List TableDef → List Edit → Result (Unit {0}) EditsFault → Member → Member → Type 0
-AreEditedTo tables edits result before after =
-    StepsTo tables (AreEdited tables edits) (λ fault view. IsEditsFault tables edits view fault) result before after
+abbrev pub AreEditedTo : List Edit → Result (Unit {0}) EditsFault → Member → Member → Type 0
+AreEditedTo edits result before after =
+    StepsTo (AreEdited before.tables edits) (λ fault view. IsEditsFault before.tables edits view fault) result before after
 
 -- ---- a push
 
 -- what was pending is under way, and this is asked for it; or not, and this is why
-abbrev pub IsPushAsked : List TableDef → Result Asked PushFault → Member → Member → Type 0
-IsPushAsked tables (Ok asked) before after =
+abbrev pub IsPushAsked : Result Asked PushFault → Member → Member → Type 0
+IsPushAsked (Ok asked) before after =
     (changes : List TableChanges) × (left : Contents)
-    × (after ≡ record { position = pushed before.position changes; view = grounded before.view })
-    × IsPushMade tables before.position before.view left changes × (asked ≡ request_of (pushed before.position changes) changes)
-IsPushAsked tables (Err fault) before after = (after ≡ before) × IsPushFault fault tables before.position before.view
+    × (after ≡ record before { position = pushed before.position changes; view = grounded before.view })
+    × IsPushMade before.tables before.position before.view left changes × (asked ≡ request_of (pushed before.position changes) changes)
+IsPushAsked (Err fault) before after = (after ≡ before) × IsPushFault fault before.tables before.position before.view
 
 -- the push under way is asked for once more; or there is none, and this is why
 abbrev pub IsAskedAgain : Result Asked PushFault → Position → Type 0
@@ -97,8 +97,8 @@ asked_in (Ok request) = Ok (asked_by_owned request)
 asked_in (Err fault) = Err fault
 
 -- the same of the request that a call gives
-abbrev pub IsPushedTo : List TableDef → Result RequestBuf PushFault → Member → Member → Type 0
-IsPushedTo tables result before after = IsPushAsked tables (asked_in result) before after
+abbrev pub IsPushedTo : Result RequestBuf PushFault → Member → Member → Type 0
+IsPushedTo result before after = IsPushAsked (asked_in result) before after
 
 abbrev pub IsResent : Result RequestBuf PushFault → Position → Type 0
 IsResent result position = IsAskedAgain (asked_in result) position
@@ -106,15 +106,15 @@ IsResent result position = IsAskedAgain (asked_in result) position
 -- ---- an answer
 
 -- the hub's answer was taken by a picker: what it makes of the replica, and what is told of that
-pub record IsAnsweredTo {P : Type 0} (picks : P → Clash → Wish → P → Type 0) (tables : List TableDef) (answer : Answer) (p : P) (result : Result Told AnswerFault) (before after : Member) : Type 0 where
+pub record IsAnsweredTo {P : Type 0} (picks : P → Clash → Wish → P → Type 0) (answer : Answer) (p : P) (result : Result Told AnswerFault) (before after : Member) : Type 0 where
   pub left : Contents
   pub unused : P
-  pub answers : Answers picks tables answer result before.position before.view p after.position left unused
-  pub shows : ShowsAt tables left after.position after.view
+  pub answers : Answers picks before.tables answer result before.position before.view p after.tables after.position left unused
+  pub shows : ShowsAt after.tables left after.position after.view
 
 -- and by these wishes
-abbrev pub Hears : List TableDef → Member → Answer → List Wish → Result Told AnswerFault → Member → Type 0
-Hears tables before answer wishes result after = IsAnsweredTo IsWished tables answer wishes result before after
+abbrev pub Hears : Member → Answer → List Wish → Result Told AnswerFault → Member → Type 0
+Hears before answer wishes result after = IsAnsweredTo IsWished answer wishes result before after
 
 -- ---- rows
 

@@ -13,7 +13,6 @@ use Rattle.cs_record.specs.Spelling.{Fits}
 use Rattle.cs_replica.specs.Laws.{IsOfAnswer}
 use Rattle.cs_replica.specs.declared.told.Told.{Told}
 use Rattle.cs_value.specs.Catalog.{AreTables}
-use Rattle.cs_value.specs.declared.catalog.TableDef.{TableDef}
 use Rattle.cs_value.specs.declared.edit.Edit.{Edit}
 use Rattle.cs_value.specs.declared.edit.Edit.TheVariants as edit
 use Rattle.cs_value.specs.declared.value.Field.TheVariants.{Is}
@@ -33,13 +32,13 @@ IsOfEdit (Err fault) = IsOfStore fault → ⊥
 -- an edit of the same replica has one result, and leaves the same replica
 abbrev pub OneEdited : Type 0
 OneEdited =
-    (tables : List TableDef) (asked : Edit) (some other : Result (Unit {0}) EditFault) (before its one last : Member)
-    → IsSameMember tables before its
+    (asked : Edit) (some other : Result (Unit {0}) EditFault) (before its one last : Member)
+    → IsSameMember before its
     → IsOfEdit some
     → IsOfEdit other
-    → IsEditedTo tables asked some before one
-    → IsEditedTo tables asked other its last
-    → (some ≡ other) × IsSameMember tables one last
+    → IsEditedTo asked some before one
+    → IsEditedTo asked other its last
+    → (some ≡ other) × IsSameMember one last
 
 -- a result that is the edits': one that is no fault of the store
 abbrev pub AreOfEdits : Result (Unit {0}) EditsFault → Type 0
@@ -51,13 +50,13 @@ AreOfEdits (Err (several.Refused at fault)) = Unit {0}
 -- edits of the same replica, one behind another, have one result, and leave the same replica
 abbrev pub OneEditedAll : Type 0
 OneEditedAll =
-    (tables : List TableDef) (edits : List Edit) (some other : Result (Unit {0}) EditsFault) (before its one last : Member)
-    → IsSameMember tables before its
+    (edits : List Edit) (some other : Result (Unit {0}) EditsFault) (before its one last : Member)
+    → IsSameMember before its
     → AreOfEdits some
     → AreOfEdits other
-    → AreEditedTo tables edits some before one
-    → AreEditedTo tables edits other its last
-    → (some ≡ other) × IsSameMember tables one last
+    → AreEditedTo edits some before one
+    → AreEditedTo edits other its last
+    → (some ≡ other) × IsSameMember one last
 
 -- the values that it has have spellings
 abbrev pub IsInRange : Edit → Type 0
@@ -68,11 +67,11 @@ IsInRange (edit.Delete table key) = Unit {0}
 -- there is one: an edit of a replica that some store shows has a result, and some store shows what it leaves
 abbrev pub EditHasResult : Type 0
 EditHasResult =
-    (tables : List TableDef) (asked : Edit) (before : Member)
-    → AreTables tables
+    (asked : Edit) (before : Member)
+    → AreTables before.tables
     → IsInRange asked
-    → IsShown tables before
-    → (result : Result (Unit {0}) EditFault) × (after : Member) × IsOfEdit result × IsEditedTo tables asked result before after
+    → IsShown before
+    → (result : Result (Unit {0}) EditFault) × (after : Member) × IsOfEdit result × IsEditedTo asked result before after
 
 -- ---- a push
 
@@ -84,31 +83,31 @@ IsOfPushed (Err fault) = IsOfPush fault
 -- a push of the same replica asks one thing, or has one fault, and leaves the same replica
 abbrev pub OnePushed : Type 0
 OnePushed =
-    (tables : List TableDef) (some other : Result Asked PushFault) (before its one last : Member)
-    → AreTables tables
-    → IsSameMember tables before its
+    (some other : Result Asked PushFault) (before its one last : Member)
+    → AreTables before.tables
+    → IsSameMember before its
     → IsOfPushed some
     → IsOfPushed other
-    → IsPushAsked tables some before one
-    → IsPushAsked tables other its last
-    → (some ≡ other) × IsSameMember tables one last
+    → IsPushAsked some before one
+    → IsPushAsked other its last
+    → (some ≡ other) × IsSameMember one last
 
 -- there is one: a push of a replica that some store shows has a result, and some store shows what it leaves. The names of the tables are
 -- text
 abbrev pub PushHasResult : Type 0
 PushHasResult =
-    (tables : List TableDef) (before : Member)
-    → AreTables tables
-    → AllByRecursion (λ table. IsUtf8 table.name) tables
-    → IsShown tables before
-    → (result : Result Asked PushFault) × (after : Member) × IsOfPushed result × IsPushAsked tables result before after
+    (before : Member)
+    → AreTables before.tables
+    → AllByRecursion (λ table. IsUtf8 table.name) before.tables
+    → IsShown before
+    → (result : Result Asked PushFault) × (after : Member) × IsOfPushed result × IsPushAsked result before after
 
 -- and once more it asks one thing, or there is none under way
 abbrev pub OneResent : Type 0
 OneResent =
-    (tables : List TableDef) (some other : Result Asked PushFault) (before its : Member)
-    → IsShown tables before
-    → IsSameMember tables before its
+    (some other : Result Asked PushFault) (before its : Member)
+    → IsShown before
+    → IsSameMember before its
     → IsOfPushed some
     → IsOfPushed other
     → IsAskedAgain some before.position
@@ -120,13 +119,13 @@ OneResent =
 -- by one list of wishes an answer has one result at the same replica, and leaves the same replica
 abbrev pub OneHeard : Type 0
 OneHeard =
-    (tables : List TableDef) (answer : Answer) (wishes : List Wish) (some other : Result Told AnswerFault) (before its one last : Member)
-    → AreTables tables
-    → IsShown tables before
-    → IsShown tables its
-    → IsSameMember tables before its
+    (answer : Answer) (wishes : List Wish) (some other : Result Told AnswerFault) (before its one last : Member)
+    → AreTables before.tables
+    → IsShown before
+    → IsShown its
+    → IsSameMember before its
     → IsOfAnswer some
     → IsOfAnswer other
-    → Hears tables before answer wishes some one
-    → Hears tables its answer wishes other last
-    → (some ≡ other) × IsSameMember tables one last
+    → Hears before answer wishes some one
+    → Hears its answer wishes other last
+    → (some ≡ other) × IsSameMember one last

@@ -102,19 +102,19 @@ fn merge_at<S: RowStore, P: Picker>(
 pub(crate) fn answer_at<S: RowStore, P: Picker>(
     alloc: Global,
     store: &mut S,
-    catalog: &Catalog,
+    catalog: &mut Catalog,
     position: &mut Position,
     answer: &Answer<'_>,
     picker: &mut P,
 ) -> Result<Told, AnswerFault>
     requires ready { P.is_ready picker.old }
     ensures ready { P.is_ready picker.new }
-    ensures told { S.honest store.new → (before : View) → ShowsAt catalog.now (S.contents store.old) position.old before
-        → Answers P.picks catalog.now answer.now result position.old before picker.old position.new (S.contents store.new) picker.new }
+    ensures told { S.honest store.new → (before : View) → ShowsAt catalog.old (S.contents store.old) position.old before
+        → Answers P.picks catalog.old answer.now result position.old before picker.old catalog.new position.new (S.contents store.new) picker.new }
     ensures writes { WritesInTurn S.RowStore (IsDone result) (SaysDevice result)
-        (ShowsSomeAt catalog.now position.old (S.contents store.old))
-        (IsAnsweredAmong P.picks catalog.now answer.now position.old (S.contents store.old) picker.old)
-        (IsAnsweredNext P.picks catalog.now answer.now position.new (S.contents store.new)) store.old store.new }
+        (ShowsSomeAt catalog.old position.old (S.contents store.old))
+        (IsAnsweredAmong P.picks catalog.old answer.now position.old (S.contents store.old) picker.old)
+        (IsAnsweredNext P.picks catalog.new answer.now position.new (S.contents store.new)) store.old store.new }
 {
     match answer {
         Answer::Short(

@@ -32,8 +32,7 @@ pub fn steps_stand()
     ensures entry { EntryStands }
     ensures lead { LeadStands }
 {
-    cs_store::log::laws::plain_slices();
-    cs_store::log::laws::none_widens();
+    cs_store::log::laws::entry_leads();
 }
 
 /// What is under way is defined on the log's tables at the version.
@@ -48,8 +47,8 @@ pub fn equal_at_rest()
     ensures { EqualAtRest }
 {}
 
-/// Where a picker has one answer to each clash, an answer of the hub has one result. It leaves one position, one thing in the store, and
-/// one state of the picker.
+/// Where a picker has one answer to each clash, an answer of the hub has one result. It leaves one list of tables, one position, one
+/// thing in the store, and one state of the picker.
 pub fn one_answered<P: Picker>()
     ensures { OneAnswered P.picks }
 {

@@ -9,8 +9,9 @@ ghost use Rattle.cs_pending.specs.View.{View};
 ghost use Rattle.cs_pending.specs.declared.fault.EditFault.TheVariants.{Device};
 ghost use Rattle.cs_pending.specs.declared.fault.EditsFault.TheVariants as several;
 ghost use Rattle.cs_pending.specs.outgoing.Outgoing.{IsOutgoing};
+ghost use Rattle.cs_store.specs.log.Log.{catalog_after};
 ghost use Rattle.cs_store.specs.declared.fault.StoreFault.TheVariants as stored;
-ghost use Rattle.cs_opening.specs.moving.Moved.{IsStoreFault, IsStoreOpened};
+ghost use Rattle.cs_opening.specs.Wider.{AreWider, IsOpenedBy, IsRefused};
 ghost use Rattle.cs_opening.specs.declared.fault.OpenFault.TheVariants as opening;
 ghost use Rattle.cs_pending.specs.position.Laws.{FitsPosition};
 ghost use Rattle.cs_pending.specs.position.Shows.{ShowsSomeAt};
@@ -39,8 +40,7 @@ use cs_conflict::Picker;
 use cs_exchange::pulling::{AnswerFault, PullFault, take_entry, take_merged};
 use cs_exchange::pushing::{PushFault, make_push, resend};
 use cs_normal::Normal;
-use cs_opening::OpenFault;
-use cs_opening::moving::open_store;
+use cs_opening::{OpenFault, open_replica};
 use cs_pending::outgoing::Outgoing;
 use cs_pending::position::Position;
 use cs_pending::rows::RowAtKey;
@@ -75,7 +75,7 @@ impl<S: RowStore> Replica<S> {
     /// version 0 with no row, nothing pending and nothing under way. Of any other store each row and each pending change is read
     /// once, and judged. Where it keeps what is pending as one value, as replicas once did, that is moved to the places of its
     /// changes, in one commit. An id is at most 4,294,967,294: the last number is a hub's own. At `Err` the store comes back as it
-    /// was.
+    /// was. A log may have given the tables more columns since: where the store keeps such, it is opened by them.
     ///
     /// # Errors
     ///
@@ -89,16 +89,17 @@ impl<S: RowStore> Replica<S> {
     ) -> Result<Replica<S>, (S, OpenFault)>
         requires { id < 2 ^ 32 - 1 }
 
-        // It is the replica with this id, of these tables.
-        ensures of { IfOk result (λ replica. (replica.catalog ≡ catalog.now) × (replica.position.id ≡ id)) }
+        // It is the replica with this id, of these tables, or of these with more columns.
+        ensures of { IfOk result (λ replica. AreWider catalog.now replica.catalog × (replica.position.id ≡ id)) }
 
         // It is new where the store held nothing, and else where the store shows it, its value of pending changes moved where it kept one.
+        // Its tables are those that the store keeps.
         ensures opened { IfOk result (λ replica. S.honest replica.store
-            → IsStoreOpened catalog.now id (S.contents store) (S.contents replica.store) replica.position) }
+            → IsOpenedBy catalog.now id (S.contents store) (S.contents replica.store) replica.catalog replica.position) }
 
         // At `Err` the store is as it was, and what is told of it holds.
         ensures kept { IfErr result (λ told. S.honest told.0 → S.contents told.0 ≡ S.contents store) }
-        ensures refused { IfErr result (λ told. S.honest told.0 → IsStoreFault catalog.now id (S.contents store) told.1) }
+        ensures refused { IfErr result (λ told. S.honest told.0 → IsRefused catalog.now id (S.contents store) told.1) }
 
         // What a stop leaves, and how the count of failures goes.
         ensures opens { MatchResult result
@@ -106,15 +107,11 @@ impl<S: RowStore> Replica<S> {
             (λ told. Opens S.RowStore catalog.now id store told.0 (Err told.1)) }
     {
         let mut store = store;
-        let copied = match catalog.copy(alloc) {
-            Ok(copied) => copied,
-            Err(fault) => return Err((store, OpenFault::from(fault))),
-        };
-        match open_store(alloc, &mut store, catalog, id) {
-            Ok(position) => Ok(Replica {
+        match open_replica(alloc, &mut store, catalog, id) {
+            Ok(opened) => Ok(Replica {
                 store,
-                catalog: copied,
-                position,
+                catalog: opened.catalog,
+                position: opened.position,
             }),
             Err(fault) => Err((store, fault)),
         }
@@ -144,6 +141,13 @@ impl<S: RowStore> Replica<S> {
         ensures fits { FitsPosition self.now.position }
     {
         in_range(&self.position);
+    }
+
+    /// Its tables, as they are now: those of the log at its version. It takes no memory.
+    pub fn catalog(&self) -> &Catalog
+        ensures { result.now ≡ self.now.catalog }
+    {
+        &self.catalog
     }
 
     /// Its id. It takes no memory.
@@ -311,7 +315,7 @@ impl<S: RowStore> Replica<S> {
         ensures kept { OnErr result (self.new.position ≡ self.old.position) }
 
         // The step that it is, what a stop leaves, and that a failed device is told only where its count rose.
-        ensures turned { Turns S.RowStore (IsEditedTo self.old.catalog edit.now result) self.old self.new }
+        ensures turned { Turns S.RowStore (IsEditedTo edit.now result) self.old self.new }
         ensures left { CallLeaves S.RowStore (IsEditedBy self.old.catalog edit.now) self.old self.new }
         ensures counts { Counts S.RowStore (result ≡ Err Device) self.old self.new }
     {
@@ -350,7 +354,7 @@ impl<S: RowStore> Replica<S> {
         ensures kept { OnErr result (self.new.position ≡ self.old.position) }
 
         // The step that it is, what a stop leaves, and that a failed device is told only where its count rose.
-        ensures turned { Turns S.RowStore (AreEditedTo self.old.catalog edits.now result) self.old self.new }
+        ensures turned { Turns S.RowStore (AreEditedTo edits.now result) self.old self.new }
         ensures left { CallLeaves S.RowStore (AreEditedBy self.old.catalog edits.now) self.old self.new }
         ensures counts { Counts S.RowStore (result ≡ Err several.Device) self.old self.new }
     {
@@ -386,7 +390,7 @@ impl<S: RowStore> Replica<S> {
         ensures kept { OnErr result (self.new.position ≡ self.old.position) }
 
         // The step that it is, what a stop leaves, and that a failed device is told only where its count rose.
-        ensures turned { Turns S.RowStore (IsPushedTo self.old.catalog result) self.old self.new }
+        ensures turned { Turns S.RowStore (IsPushedTo result) self.old self.new }
         ensures left { CallLeaves S.RowStore (IsPushMadeIn self.old.catalog) self.old self.new }
         ensures counts { Counts S.RowStore (result ≡ Err push.Device) self.old self.new }
     {
@@ -430,8 +434,8 @@ impl<S: RowStore> Replica<S> {
 
     /// Takes the entry of the hub's log that is told at an index. Where it is the push that is under way, that is confirmed. Of
     /// another's each row becomes the three-way merge of the log's row at the version, the own one, and the log's at the next.
-    /// The picker decides by its wishes. It is one commit. The first fault that holds is told: `Behind`, `Gap`, `BadEntry`,
-    /// `Stopped`.
+    /// The picker decides by its wishes. An entry that widens a table gives it its columns, here and in the catalog, and asks nobody.
+    /// It is one commit. The first fault that holds is told: `Behind`, `Gap`, `BadEntry`, `Stopped`.
     pub fn take<P: Picker>(
         &mut self,
         alloc: Global,
@@ -454,14 +458,15 @@ impl<S: RowStore> Replica<S> {
         ensures refused { S.honest self.new.store → (view : View) → Shows S.contents self.old view
             → IfErr result (IsPullFault P.picks self.old.catalog self.old.position index entry.now view picker.old picker.new) }
 
-        // The tables stay, and at `Err` the position.
-        ensures catalog { self.new.catalog ≡ self.old.catalog }
+        // The tables are those that the entry leaves. At `Err` they stay, and the position.
+        ensures wide { OnOk result (self.new.catalog ≡ catalog_after self.old.catalog entry.now.body) }
+        ensures catalog { OnErr result (self.new.catalog ≡ self.old.catalog) }
         ensures kept { OnErr result (self.new.position ≡ self.old.position) }
     {
         take_entry(
             alloc,
             &mut self.store,
-            &self.catalog,
+            &mut self.catalog,
             &mut self.position,
             index,
             entry,
@@ -526,25 +531,24 @@ impl<S: RowStore> Replica<S> {
 
         // What it made of the replica, and what is told of that.
         ensures told { S.honest self.new.store → (before : View) → Shows S.contents self.old before
-            → Answers P.picks self.old.catalog answer.now result self.old.position before picker.old self.new.position (S.contents self.new.store) picker.new }
+            → Answers P.picks self.old.catalog answer.now result self.old.position before picker.old self.new.catalog self.new.position (S.contents self.new.store) picker.new }
 
         // In whole commits, one after another.
         ensures writes { WritesInTurn S.RowStore (IsDone result) (SaysDevice result)
             (ShowsSomeAt self.old.catalog self.old.position (S.contents self.old.store))
             (IsAnsweredAmong P.picks self.old.catalog answer.now self.old.position (S.contents self.old.store) picker.old)
-            (IsAnsweredNext P.picks self.old.catalog answer.now self.new.position (S.contents self.new.store)) self.old.store self.new.store }
-        ensures catalog { self.new.catalog ≡ self.old.catalog }
+            (IsAnsweredNext P.picks self.new.catalog answer.now self.new.position (S.contents self.new.store)) self.old.store self.new.store }
 
         // The step that it is, what a stop leaves, and that a failed device is told only where its count rose.
-        ensures turned { Turns S.RowStore (IsAnsweredTo P.picks self.old.catalog answer.now picker.old result) self.old self.new }
-        ensures left { CallLeaves S.RowStore (IsAnsweredNext P.picks self.old.catalog answer.now) self.old self.new }
+        ensures turned { Turns S.RowStore (IsAnsweredTo P.picks answer.now picker.old result) self.old self.new }
+        ensures left { CallLeaves S.RowStore (IsAnsweredNext P.picks self.new.catalog answer.now) self.old self.new }
         ensures counts { Counts S.RowStore (SaysDevice result) self.old self.new }
     {
         cs_pending::position::laws::one_position();
         let told = answer_at(
             alloc,
             &mut self.store,
-            &self.catalog,
+            &mut self.catalog,
             &mut self.position,
             answer,
             picker,

@@ -40,15 +40,15 @@ fn is_confirmed_again(alloc: Global, replica: &mut Seven) -> bool {
         && is_at(replica, 1, 0)
 }
 
-/// A store is asked ten times where it is laid out, three times by an edit, twice by a push and once by its answer. Whether the step is
+/// A store is asked eleven times where it is laid out, three times by an edit, twice by a push and once by its answer. Whether the step is
 /// refused where so many calls are passed on, and then made.
 fn is_done_again(alloc: Global, passes: u64) -> bool {
     let Some(mut replica) = passing(alloc, passes) else {
         return false;
     };
     match passes {
-        10..13 => is_edited_again(alloc, &mut replica),
-        13..15 => is_pushed_again(alloc, &mut replica),
+        11..14 => is_edited_again(alloc, &mut replica),
+        14..16 => is_pushed_again(alloc, &mut replica),
         _ => is_confirmed_again(alloc, &mut replica),
     }
 }
@@ -56,7 +56,7 @@ fn is_done_again(alloc: Global, passes: u64) -> bool {
 #[test]
 fn what_the_device_refuses_changes_nothing(rt: HostRuntime) {
     let alloc = rt.alloc();
-    for passes in 10..16u64 {
+    for passes in 11..17u64 {
         assert!(rt; is_done_again(alloc, passes));
     }
 }
@@ -77,16 +77,16 @@ fn is_opened_again(alloc: Global, passes: u64) -> Option<bool> {
     Some(fault == OpenFault::Device && shows_both(alloc, &mut replica))
 }
 
-/// A store is asked ten times where it is laid out. A filled one is asked for a value of pending changes, whether it holds nothing, for five
-/// values, and for three signs of damage. Then it is asked for the pending changes and the row of one, and the row and the pending change of a
-/// place under way.
+/// A store is asked eleven times where it is laid out. A filled one is asked for its tables, a value of pending changes, whether it holds
+/// nothing, for five values, and for three signs of damage. Then it is asked for the pending changes and the row of one, and the row and
+/// the pending change of a place under way.
 #[test]
 fn what_the_device_refuses_is_not_opened(rt: HostRuntime) {
     let alloc = rt.alloc();
-    for passes in 0..10u64 {
+    for passes in 0..11u64 {
         assert!(rt; is_laid_out_again(alloc, passes));
     }
-    for passes in 0..15u64 {
+    for passes in 0..16u64 {
         assert!(rt; is_opened_again(alloc, passes).unwrap_or(false));
     }
 }

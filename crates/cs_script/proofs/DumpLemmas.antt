@@ -12,7 +12,6 @@ use Rattle.cs_pending.specs.declared.position.position.Position.{Position}
 use Rattle.cs_pending.specs.rows.Rows.{AreRowsOf}
 use Rattle.cs_text.specs.Text.{line}
 use Rattle.cs_node_lines.specs.told.Told.{place_text}
-use Rattle.cs_world.specs.Reads.{AreRowsIn}
 use Rattle.cs_world.specs.World.{Member, World}
 use Rattle.cs_script.specs.Dump.{AreReplicaLines}
 use Rattle.cs_script.specs.Turns.{PutsDump, PutsReplica, PutsReplicas}
@@ -50,11 +49,11 @@ puts_rows_more tables more table state before between after rows is so_far are p
 -- rows of the table at a place
 pub puts_rows_at : (tables : List TableDef) (at : ℕ) (table : TableDef) (state : State) (before between after : List ℕ) (rows : List (List ℕ × List Value))
     → at < length tables → table ≡ get_or tables at table → PutsRows (take at tables) state before between
-    → AreRowsIn tables state at rows → after ≡ between ++ rows_text table.name rows → PutsRows (take (at + 1) tables) state before after
+    → ((def : TableDef) → slice_get tables at ≡ Some def → AreRowsOf (state def.name) rows) → after ≡ between ++ rows_text table.name rows → PutsRows (take (at + 1) tables) state before after
 puts_rows_at tables at table state before between after rows less here so_far are put =
     let wider : take (at + 1) tables ≡ take at tables ++ table ∷ [] = take_more tables at table less ∙ ap (λ (t : TableDef). take at tables ++ t ∷ []) (sym here) in
     let there : slice_get tables at ≡ Some table = slice_get-get_or tables at table less ∙ ap (λ t. Some t) (sym here) in
-    puts_rows_more (take at tables) (take (at + 1) tables) table state before between after rows wider so_far (are.there table there) put
+    puts_rows_more (take at tables) (take (at + 1) tables) table state before between after rows wider so_far (are table there) put
 
 replicas_push : (tables : List TableDef) (r : ℕ) (members : List Member) (member : Member) (text rows : List ℕ)
     → AreReplicaLines tables r members text → AreRowLines tables member.view.tables rows

@@ -7,7 +7,8 @@ use Rattle.cs_text.specs.Text.{line}
 use Rattle.cs_node_lines.specs.told.Dump.{AreRowLines, replica_text}
 use Rattle.cs_world.specs.World.{Member, World}
 
--- replicas, of which the first has number r: where each stands, and its rows
+-- replicas, of which the first has number r: where each stands, and its rows. A table keeps its place and its name where it gets more
+-- columns, so the tables may be those that the hub opened with
 abbrev pub AreReplicaLines : List TableDef → ℕ → List Member → List ℕ → Type 0
 AreReplicaLines tables r [] text = text ≡ []
 AreReplicaLines tables r (member ∷ members) text =

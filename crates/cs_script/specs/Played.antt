@@ -6,7 +6,7 @@ use Rattle.cs_node_lines.specs.told.Told.{edit_fault_text, fault_text, open_faul
 use Rattle.cs_world.specs.Steps.{Step, receiver}
 use Rattle.cs_world.specs.World.{Member, World}
 use Rattle.cs_world.specs.declared.event.Event.{Event}
-use Rattle.cs_world.specs.declared.event.Event.TheVariants.{AskCatch, AskPull, Deliver, MakePush, OnEdit, Resend, Restart}
+use Rattle.cs_world.specs.declared.event.Event.TheVariants.{AskCatch, AskPull, AskWiden, Deliver, MakePush, OnEdit, Resend, Restart}
 use Rattle.cs_world.specs.declared.outcome.Outcome.{Outcome}
 use Rattle.cs_world.specs.declared.outcome.Outcome.TheVariants.{Done, Heard, Memory, NoMessage, NoReplica, NotEdited, NotHeard, NotPushed, NotReloaded, Sent}
 
@@ -40,6 +40,7 @@ version_told world (MakePush r) = 0
 version_told world (Resend r) = 0
 version_told world (AskPull r limit) = 0
 version_told world (AskCatch r limit) = 0
+version_told world (AskWiden wider) = 0
 version_told world (Restart r) = 0
 
 -- the events were made, one after another, and each is told on a line of its own

@@ -1,13 +1,14 @@
 //! A world, at its end.
 
-ghost use Rattle.std.specs.Prelude.{◌≡◌, ◌++◌, IfOk, OnOk, codes, string_bytes};
+ghost use Rattle.std.specs.Prelude.{◌≡◌, ◌++◌, IfOk, OnOk, Some, codes, slice_get, string_bytes};
 ghost use Rattle.std.specs.Fmt.{decimal};
 ghost use Rattle.cs_normal.specs.State.{State};
 ghost use Rattle.cs_script.specs.Turns.{IsStateOf, PutsDump, PutsReplica, PutsReplicas, StandsAt};
 ghost use Rattle.cs_text.specs.Text.{line};
 ghost use Rattle.cs_node_lines.specs.told.Dump.{PutsRows, flight_count, numbered_text, rows_text};
 ghost use Rattle.cs_node_lines.specs.told.Told.{place_text};
-ghost use Rattle.cs_world.specs.Reads.{AreRowsIn};
+ghost use Rattle.cs_pending.specs.rows.Rows.{AreRowsOf};
+ghost use Rattle.cs_value.specs.declared.catalog.TableDef.{TableDef};
 ghost use Rattle.cs_world.specs.World.{IsMember, Member, World as Standing};
 
 use cs_map_store::MapStore;
@@ -133,7 +134,8 @@ fn push_tables(
     Ok(())
 }
 
-// The rows of a table. A store in memory fails for want of memory alone.
+// The rows of a table, by its place and its name, which it keeps where it gets more columns. A store in memory fails for want of memory
+// alone.
 fn rows_of(
     world: &mut World<MapStore>,
     whose: Option<usize>,
@@ -141,7 +143,7 @@ fn rows_of(
 ) -> Result<Vec<RowAtKey>, Memory>
     ensures stands { (standing : Standing) → StandsAt world.old standing → StandsAt world.new standing }
     ensures listed { IfOk result (λ rows. (standing : Standing) (state : State) → StandsAt world.old standing → IsStateOf standing whose state
-        → AreRowsIn standing.tables state table rows.items) }
+        → (def : TableDef) → slice_get standing.tables table ≡ Some def → AreRowsOf (state def.name) rows.items) }
 {
     match whose {
         Some(replica) => match world.rows(replica, table) {

@@ -1,15 +1,15 @@
 //! A line of a script, as the event that it names.
 
-ghost use Rattle.std.specs.Prelude.{◌≡◌, IfOk};
-ghost use Rattle.cs_script.specs.Events.{alone, both_in, event_in, event_of, last_in};
+ghost use Rattle.std.specs.Prelude.{◌≡◌, IfOk, Some};
+ghost use Rattle.cs_script.specs.Events.{alone, both_in, event_in, event_of, last_in, replica_event, short_in, wider_in, wider_of};
 ghost use Rattle.cs_text.specs.parse.Edits.{edit_in};
 ghost use Rattle.cs_text.specs.parse.Numbers.{small_in, unsigned_in};
 ghost use Rattle.cs_text.specs.parse.Wishes.{wishes_in};
 
 use cs_conflict::Wish;
-use cs_text::parse::{Words, is_word, read_edit, read_wishes, small, unsigned};
-use cs_value::{Catalog, Items, Memory};
-use cs_world::{Event, WishList};
+use cs_text::parse::{Words, is_word, read_edit, read_text, read_wishes, small, unsigned};
+use cs_value::{Catalog, Items, Memory, Text};
+use cs_world::{Event, Wider, WishList};
 use std::alloc::Global;
 
 /// The event that a line names, without its line feed, if it names one.
@@ -39,34 +39,44 @@ fn read_event_of(
     if is_word(verb, b"edit") {
         return read_edited(alloc, catalog, number, words);
     }
+    if is_word(verb, b"deliver") {
+        return read_delivered(alloc, number, words);
+    }
+    if is_word(verb, b"widen") {
+        return read_widened(alloc, number, words);
+    }
+    Ok(replica_event(verb, number, words))
+}
+
+// The event of a replica that a verb, its number, and the words behind that name.
+fn replica_event(verb: &[u8], number: &[u8], words: &mut Words<'_>) -> Option<Event>
+    ensures { result ≡ replica_event verb.now number.now words.old }
+{
     if is_word(verb, b"push") {
         return match alone(number, words) {
-            Some(replica) => Ok(Some(Event::MakePush { replica })),
-            None => Ok(None),
+            Some(replica) => Some(Event::MakePush { replica }),
+            None => None,
         };
     }
     if is_word(verb, b"resend") {
         return match alone(number, words) {
-            Some(replica) => Ok(Some(Event::Resend { replica })),
-            None => Ok(None),
+            Some(replica) => Some(Event::Resend { replica }),
+            None => None,
         };
     }
     if is_word(verb, b"pull") {
-        return Ok(read_pull(number, words));
+        return read_pull(number, words);
     }
     if is_word(verb, b"catch") {
-        return Ok(read_catch(number, words));
-    }
-    if is_word(verb, b"deliver") {
-        return read_delivered(alloc, number, words);
+        return read_catch(number, words);
     }
     if is_word(verb, b"restart") {
         return match alone(number, words) {
-            Some(replica) => Ok(Some(Event::Restart { replica })),
-            None => Ok(None),
+            Some(replica) => Some(Event::Restart { replica }),
+            None => None,
         };
     }
-    Ok(None)
+    None
 }
 
 // The number of a replica, behind which no word is left.
@@ -139,6 +149,34 @@ fn read_delivered(
         })),
         None => Ok(None),
     }
+}
+
+// A wider table that is asked for. A request can't hold a name of more than 4,294,967,295 bytes.
+fn read_widened(
+    alloc: Global,
+    number: &[u8],
+    words: &mut Words<'_>,
+) -> Result<Option<Event>, Memory>
+    ensures { IfOk result (λ found. found ≡ wider_in (unsigned_in number.now) words.old) }
+{
+    let Some(base) = words.next() else {
+        return Ok(None);
+    };
+    let Some(table) = words.next() else {
+        return Ok(None);
+    };
+    let Some(table) = read_text(alloc, table)? else {
+        return Ok(None);
+    };
+    Ok(wider(unsigned(number), unsigned(base), table, last_limit(words)))
+}
+
+// The wider table, where its numbers are there and its name is short enough.
+fn wider(number: Option<u64>, base: Option<u64>, table: Text, width: Option<u32>) -> Option<Event>
+    ensures { result ≡ both_in wider_of (both_in (λ n b. (n, b)) number base) (both_in (λ t w. (t, w)) (short_in (Some table)) width) }
+{
+    let wider = Wider::new(number?, base?, table, width?)?;
+    Some(Event::AskWiden(wider))
 }
 
 // The wishes that the last word spells, where one word is left.

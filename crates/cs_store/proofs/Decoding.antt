@@ -27,7 +27,7 @@ use Rattle.cs_store.specs.declared.log.body.Body.TheVariants.{Changes, Widen}
 -- the tables behind a body are a catalog
 next_tables : WidenedAreTables → (tables : List TableDef) (body : Body) → AreTables tables → MayWiden tables body → AreTables (catalog_after tables body)
 next_tables wide tables (Changes changes) are may = are
-next_tables wide tables (Widen table width) are may = wide tables table width are may.1
+next_tables wide tables (Widen table width) are may = wide tables table width are may
 
 pub one_present : OneBody → WidenedAreTables → OnePresent
 one_present body wide opening some other [] are is its = is ∙ sym its

@@ -12,9 +12,9 @@ mod entry;
 mod fault;
 mod stored;
 
-pub use body::{Body, put_body, read_body, read_changes, widening_is_on};
+pub use body::{Body, put_body, read_body, read_changes};
 pub use entry::{LogEntry, MAX_CHANGESET, MAX_ENTRIES};
 pub use fault::BodyFault;
-pub(crate) use stored::is_seen;
+pub(crate) use stored::is_plainly_stored;
 
 pub mod laws;

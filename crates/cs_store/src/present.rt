@@ -2,7 +2,7 @@
 
 ghost use Rattle.std.specs.Prelude.{◌≡◌};
 
-use crate::log::{Body, BodyFault, is_seen, read_body};
+use crate::log::{Body, BodyFault, is_plainly_stored, read_body};
 use cs_value::{Catalog, Memory};
 use cs_widening::widen;
 use std::alloc::{AllocError, Global};
@@ -78,7 +78,7 @@ impl<'a> Present<'a> {
         ensures judged { IfOk result (λ good. AreJudged self.old (bytes.now ∷ []) good self.new) }
         ensures same { OnErr result (self.new ≡ self.old) }
     {
-        if is_seen(alloc, self.catalog(), bytes)? {
+        if is_plainly_stored(alloc, self.catalog(), bytes)? {
             return Ok(true);
         }
         let body = match read_body(alloc, self.catalog(), bytes) {

@@ -36,6 +36,9 @@ const BODY: &[u8] = &[
 
 const OTHER_BODY: &[u8] = &[7, 0x54, 2, 1, 0, 0x74, 0x31, 0];
 
+/// The body of an entry that would widen `t1` to three columns, which none may yet.
+const WIDEN_BODY: &[u8] = &[1, 0, 0, 0, 3, 0x74, 0x31];
+
 /// A row, a pending change, the body of an entry, and whether a store that holds these is whole.
 pub type Held = (Edit<'static>, Edit<'static>, &'static [u8], bool);
 
@@ -45,7 +48,7 @@ const WHOLE: Edit<'static> = (0, KEY, Some(ROW));
 const CHANGE: Edit<'static> = (0, KEY, Some(INSERT));
 
 /// Stores that are whole; rows, changes and bodies that aren't what their place says.
-pub const HELD: [Held; 14] = [
+pub const HELD: [Held; 15] = [
     (WHOLE, CHANGE, BODY, true),
     (WHOLE, (0, KEY, Some(UPDATE)), &[0], true),
     ((1, KEY, Some(ROW)), CHANGE, BODY, false),
@@ -59,6 +62,7 @@ pub const HELD: [Held; 14] = [
     (WHOLE, (0, KEY, Some(LONG_INSERT)), BODY, false),
     (WHOLE, (0, KEY, Some(ROW)), BODY, false),
     (WHOLE, CHANGE, OTHER_BODY, false),
+    (WHOLE, CHANGE, WIDEN_BODY, false),
     (WHOLE, CHANGE, &[], false),
 ];
 

@@ -1,6 +1,7 @@
 -- The laws of tables that get more columns.
 use Rattle.std.specs.Prelude.{◌≡◌, ℕ, ◌-◌, Bool, true, false, List, [], ◌∷◌, ◌++◌, length, option_map, replicate}
 use Rattle.cs_value.specs.Catalog.{AreTables}
+use Rattle.cs_value.specs.Decided.{OrNot}
 use Rattle.cs_value.specs.Key.{Place, FitsPlace}
 use Rattle.cs_value.specs.declared.catalog.TableDef.{TableDef}
 use Rattle.cs_value.specs.declared.value.Value.{Value}
@@ -21,6 +22,10 @@ abbrev pub WideningCanBe : Type 0
 WideningCanBe =
     CanWiden (table_t (false ∷ []) ∷ []) (116 ∷ []) 3
     × (widened_tables (116 ∷ []) 3 (table_t (false ∷ []) ∷ []) ≡ table_t (false ∷ false ∷ []) ∷ [])
+
+-- whether a table can get so many columns is decided
+abbrev pub CanWidenOrNot : Type 0
+CanWidenOrNot = (tables : List TableDef) (name : List ℕ) (width : ℕ) → OrNot (CanWiden tables name width)
 
 -- tables of which one gets more columns are a catalog
 abbrev pub WidenedAreTables : Type 0

@@ -1,10 +1,15 @@
 //! The laws of tables that get more columns, each the contract of a function that does nothing.
 
-ghost use Rattle.cs_widening.specs.Laws.{AppliedWidens, BytesWiden, NetWidens, WidenedAreTables, WidenedFits, WidenedIsState, WideningCanBe};
+ghost use Rattle.cs_widening.specs.Laws.{AppliedWidens, BytesWiden, CanWidenOrNot, NetWidens, WidenedAreTables, WidenedFits, WidenedIsState, WideningCanBe};
 
 /// A table of two columns can get a third.
 pub fn widening_can_be()
     ensures { WideningCanBe }
+{}
+
+/// A table can get so many columns, or none of the name can.
+pub fn can_widen_or_not()
+    ensures { CanWidenOrNot }
 {}
 
 /// The tables of which one gets more columns are a catalog.

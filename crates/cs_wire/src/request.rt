@@ -37,7 +37,8 @@ pub enum Request<'a> {
         first: u64,
         limit: u32,
     },
-    /// Give the table so many columns, behind those that it has. This was asked for as number `number`, on the tables of the version `base`.
+    /// Give the table so many columns, behind those that it has. This was asked for as number `number`, on the tables of the version
+    /// `base`.
     Widen {
         number: u64,
         base: u64,
@@ -65,7 +66,8 @@ pub enum RequestBuf {
         first: u64,
         limit: u32,
     },
-    /// Give the table so many columns, behind those that it has. This was asked for as number `number`, on the tables of the version `base`.
+    /// Give the table so many columns, behind those that it has. This was asked for as number `number`, on the tables of the version
+    /// `base`.
     Widen {
         number: u64,
         base: u64,

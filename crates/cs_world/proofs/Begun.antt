@@ -5,10 +5,13 @@ use Rattle.std.proofs.lemmas.Option.{slice_get-map, slice_get_within}
 use Rattle.std.proofs.lemmas.List.{length-map}
 use Rattle.cs_value.specs.Catalog.{AreTables}
 use Rattle.cs_value.specs.declared.catalog.TableDef.{TableDef}
+use Rattle.cs_hub.specs.declared.judgement.widen.TheConstants.{WIDEN_ORIGIN}
 use Rattle.cs_hub.specs.Holding as hub
 use Rattle.cs_store.specs.declared.log.entry.LogEntry.{LogEntry}
 use Rattle.cs_hub.specs.log_store.Shows.{ShowsLog}
 use Rattle.cs_replica.specs.Moved.{IsStoreOpened}
+use Rattle.cs_opening.specs.Wider.{IsOpenedBy, OpensBy}
+use Rattle.cs_opening.specs.WiderLaws.{NothingByHanded}
 use Rattle.cs_opening.specs.Fresh.{IsFirst, first_position}
 use Rattle.cs_order.specs.Order.{by_bytes}
 use Rattle.cs_pending.specs.Calls.{WritesStore}
@@ -38,6 +41,14 @@ opened_new tables id old new position none (inr (changes, keeps, moved, stands))
     let there = keeps.there in
     absurd (cc)
 
+-- by the tables that were handed
+pub opened_bare : NothingByHanded → (handed tables : List TableDef) (id : ℕ) (old new : Contents) (position : Position) → old ≡ nothing → IsOpenedBy handed id old new tables position
+    → (tables ≡ handed) × (position ≡ first_position id) × IsFirst handed id new
+opened_bare law handed tables id old new position none (by, is) =
+    let same = law handed tables (subst (λ (c : Contents). OpensBy handed c tables) none by) in
+    let first = opened_new handed id old new position none (subst (λ (t : List TableDef). IsStoreOpened t id old new position) same is) in
+    (same, first.0, first.1)
+
 -- what shows a replica is something, and so is what shows a log
 shows_some : (tables : List TableDef) (contents : Contents) (bytes : List ℕ) → meta_value contents Catalog ≡ Some bytes → contents ≡ nothing → ⊥
 shows_some tables contents bytes there none =
@@ -56,9 +67,9 @@ module _ {S T E : Type 0} (g : Ghosts S) (device : E) (readable : Type 0) (after
   pub hub_alone : (tables : List TableDef) (log : List LogEntry) → (g.honest new → ShowsLog tables (g.contents new) log) → LeavesAlone g new
   hub_alone tables log shows = alone (λ h. shows_some tables (g.contents new) _ ((shows h).values.values Catalog))
 
-module _ {S : Type 0} (g : Ghosts S) (limit : ℕ) (tables : List TableDef) (are : AreTables tables) (sound : FirstIsSound) (h : hub.Holding S) (replicas : List (replica.Holding S)) where
+module _ {S : Type 0} (g : Ghosts S) (limit : ℕ) (tables : List TableDef) (are : AreTables tables) (sound : FirstIsSound) (origin : WIDEN_ORIGIN ≡ 4294967295) (h : hub.Holding S) (replicas : List (replica.Holding S)) where
   abbrev first_of : replica.Holding S → Member
-  first_of one = record { position = one.position; view = empty_view }
+  first_of one = record { tables = tables; position = one.position; view = empty_view }
 
   abbrev members : List Member
   members = map first_of replicas
@@ -80,9 +91,10 @@ module _ {S : Type 0} (g : Ghosts S) (limit : ℕ) (tables : List TableDef) (are
       let n = news r f.0 f.1 (all.replicas r f.0 f.1) in
       let within = slice_get_within replicas r f.0 f.1 in
       record {
+        tables_are = ap (λ (m : Member). m.tables) f.2;
         position = ap (λ (m : Member). m.position) f.2 ∙ n.1;
         view = ap (λ (m : Member). m.view) f.2;
-        small = omega (arith, within, counted, few);
+        small = omega (arith, within, counted, few, origin);
         contents = g.contents f.0.store;
         shown = subst (λ (m : Member). ShowsAt tables (g.contents f.0.store) m.position m.view) (sym f.2) (subst (λ (p : Position). ShowsAt tables (g.contents f.0.store) p empty_view) (sym n.1) n.2);
       }) in (

@@ -17,15 +17,17 @@ use Rattle.cs_exchange.specs.pushing.Pushes.{grounded, pushed, request_of}
 use Rattle.cs_exchange.specs.declared.pushing.fault.PushFault.{PushFault}
 use Rattle.cs_replica.specs.Edited.{with_pending}
 use Rattle.cs_replica.specs.declared.told.Told.{Told}
+use Rattle.cs_replica.specs.declared.told.Told.TheVariants.{Ignored}
 use Rattle.cs_value.specs.declared.edit.Edit.{Edit}
 use Rattle.cs_wire.specs.Answers.{FitsAnswer, answer_spelling}
 use Rattle.cs_wire.specs.Requests.{Asked, AsksCatch, AsksPull, request_spelling}
 use Rattle.cs_wire.specs.declared.answer.Answer.{Answer}
 use Rattle.cs_world.specs.Steps as step
 use Rattle.cs_world.specs.Steps.{Hears, Step, addressee, heard}
-use Rattle.cs_world.specs.World.{Asks, IsMember, IsMessage, Member, Sent, Tells, World, with_log, with_member, with_message}
+use Rattle.cs_world.specs.Wider.{Wider}
+use Rattle.cs_world.specs.World.{Asks, IsMember, IsMessage, Member, Orders, Replies, Sent, Tells, World, with_log, with_member, with_message}
 use Rattle.cs_world.specs.declared.event.Event.{Event}
-use Rattle.cs_world.specs.declared.event.Event.TheVariants.{AskCatch, AskPull, Deliver, MakePush, OnEdit, Resend, Restart}
+use Rattle.cs_world.specs.declared.event.Event.TheVariants.{AskCatch, AskPull, AskWiden, Deliver, MakePush, OnEdit, Resend, Restart}
 use Rattle.cs_world.specs.declared.outcome.Outcome.{Outcome}
 use Rattle.cs_world.specs.declared.outcome.Outcome.TheVariants as told
 use Rattle.cs_world.proofs.Found.{set_same}
@@ -54,6 +56,16 @@ abbrev pub IsRead : Result (Unit {0}) OpenFault → Type 0
 IsRead (Ok done) = Unit {0}
 IsRead (Err fault) = (fault ≡ opening.Memory) ⊎ (fault ≡ opening.Device)
 
+-- ---- what is asked, by a replica or for none, and its answer
+
+abbrev pub asks_for : Option ℕ → Asked → Sent
+asks_for (Some r) asked = Asks r asked
+asks_for None asked = Orders asked
+
+abbrev pub tells_to : Option ℕ → Answer → Sent
+tells_to (Some r) answer = Tells r answer
+tells_to None answer = Replies answer
+
 module _ (limit : ℕ) (old : World) where
   -- ---- what each event comes to
 
@@ -62,7 +74,7 @@ module _ (limit : ℕ) (old : World) where
     pub after : Member
     pub result : Result (Unit {0}) EditFault
     pub was : IsMember old r before
-    pub goes : IsEditedTo old.tables asked result before after
+    pub goes : IsEditedTo asked result before after
     pub outcome_is : outcome ≡ edit_outcome result
     pub new_is : new ≡ with_member old r after
 
@@ -71,7 +83,7 @@ module _ (limit : ℕ) (old : World) where
     pub after : Member
     pub result : Result Asked PushFault
     pub was : IsMember old r before
-    pub goes : IsPushAsked old.tables result before after
+    pub goes : IsPushAsked result before after
     pub outcome_is : outcome ≡ ask_outcome (length old.messages) result
     pub new_is : new ≡ with_asked (with_member old r after) r result
 
@@ -98,15 +110,15 @@ module _ (limit : ℕ) (old : World) where
     pub new_is : new ≡ old
 
   pub record Answered (k : ℕ) (outcome : Outcome) (new : World) : Type 0 where
-    pub r : ℕ
+    pub to : Option ℕ
     pub asked : Asked
     pub answer : Answer
     pub log : List LogEntry
-    pub there : IsMessage old k (Asks r asked)
+    pub there : IsMessage old k (asks_for to asked)
     pub fits : FitsAnswer answer
     pub goes : ServesIf (Unit {0}) limit (hub_of old.tables old.log) (request_spelling asked) (answer_spelling answer) (hub_of old.tables log)
     pub outcome_is : outcome ≡ told.Sent (length old.messages)
-    pub new_is : new ≡ with_message (with_log old log) (Tells r answer)
+    pub new_is : new ≡ with_message (with_log old log) (tells_to to answer)
 
   pub record HeardOf (k : ℕ) (wishes : List Wish) (outcome : Outcome) (new : World) : Type 0 where
     pub r : ℕ
@@ -116,9 +128,19 @@ module _ (limit : ℕ) (old : World) where
     pub result : Result Told AnswerFault
     pub there : IsMessage old k (Tells r answer)
     pub was : IsMember old r before
-    pub goes : Hears old.tables before answer wishes result after
+    pub goes : Hears before answer wishes result after
     pub outcome_is : outcome ≡ heard result
     pub new_is : new ≡ with_member old r after
+
+  pub record OrderedOf (wider : Wider) (outcome : Outcome) (new : World) : Type 0 where
+    pub outcome_is : outcome ≡ told.Sent (length old.messages)
+    pub new_is : new ≡ with_message old (Orders (step.asked_of_wider wider))
+
+  pub record ToldNobody (k : ℕ) (outcome : Outcome) (new : World) : Type 0 where
+    pub answer : Answer
+    pub there : IsMessage old k (Replies answer)
+    pub outcome_is : outcome ≡ told.Heard Ignored
+    pub new_is : new ≡ old
 
   pub record Missed (k : ℕ) (outcome : Outcome) (new : World) : Type 0 where
     pub none : slice_get old.messages k ≡ None
@@ -131,7 +153,9 @@ module _ (limit : ℕ) (old : World) where
   Came (Resend r) outcome new = AskedOnceMore r outcome new
   Came (AskPull r count) outcome new = AskedFrom r (λ position. AsksPull position.version count) outcome new
   Came (AskCatch r count) outcome new = AskedFrom r (λ position. AsksCatch position.id position.version count) outcome new
-  Came (Deliver k wishes) outcome new = Missed k outcome new ⊎ (Answered k outcome new ⊎ HeardOf k wishes outcome new)
+  Came (AskWiden wider) outcome new = OrderedOf wider outcome new
+  Came (Deliver k wishes) outcome new =
+      Missed k outcome new ⊎ (Answered k outcome new ⊎ (ToldNobody k outcome new ⊎ HeardOf k wishes outcome new))
   Came (Restart r) outcome new = Reread r outcome new
 
   -- there is no such replica
@@ -156,7 +180,7 @@ module _ (limit : ℕ) (old : World) where
   pub came : {event : Event} {outcome : Outcome} {new : World} → Step limit old event outcome new → Comes event outcome new
   came (step.edits {r = r} {asked = asked} {before = before} {next = next} {left = left} count was made shows) = inr (inr (record {
     before = before;
-    after = record { position = with_pending before.position count; view = next };
+    after = record before { position = with_pending before.position count; view = next };
     result = Ok tt;
     was = was;
     goes = (count, next, left, refl, made, shows);
@@ -174,7 +198,7 @@ module _ (limit : ℕ) (old : World) where
   }))
   came (step.pushes {r = r} {before = before} {left = left} {changes = changes} was made) = inr (inr (record {
     before = before;
-    after = record { position = pushed before.position changes; view = grounded before.view };
+    after = record before { position = pushed before.position changes; view = grounded before.view };
     result = Ok (request_of (pushed before.position changes) changes);
     was = was;
     goes = (changes, left, refl, made, refl);
@@ -213,7 +237,7 @@ module _ (limit : ℕ) (old : World) where
   came (step.restarts {r = r} {before = before} was) = inr (inr (record { before = before; was = was; result = Ok tt; goes = tt; outcome_is = refl; new_is = refl }))
   came (step.restarts_not {r = r} {before = before} {fault = fault} was why) = inr (inr (record { before = before; was = was; result = Err fault; goes = why; outcome_is = refl; new_is = refl }))
   came (step.serves {k = k} {r = r} {wishes = wishes} {asked = asked} {log = log} answer there fits serves) = inr (inr (inr (inl (record {
-    r = r;
+    to = Some r;
     asked = asked;
     answer = answer;
     log = log;
@@ -223,7 +247,20 @@ module _ (limit : ℕ) (old : World) where
     outcome_is = refl;
     new_is = refl;
   }))))
-  came (step.hears {k = k} {r = r} {wishes = wishes} {answer = answer} {before = before} {after = after} {result = result} there was hears) = inr (inr (inr (inr (record {
+  came (step.obeys {k = k} {wishes = wishes} {asked = asked} {log = log} answer there fits serves) = inr (inr (inr (inl (record {
+    to = None;
+    asked = asked;
+    answer = answer;
+    log = log;
+    there = there;
+    fits = fits;
+    goes = serves;
+    outcome_is = refl;
+    new_is = refl;
+  }))))
+  came (step.orders {wider = wider} fits) = inr (inr (record { outcome_is = refl; new_is = refl }))
+  came (step.ignores {answer = answer} there) = inr (inr (inr (inr (inl (record { answer = answer; there = there; outcome_is = refl; new_is = refl })))))
+  came (step.hears {k = k} {r = r} {wishes = wishes} {answer = answer} {before = before} {after = after} {result = result} there was hears) = inr (inr (inr (inr (inr (record {
     r = r;
     answer = answer;
     before = before;
@@ -234,7 +271,7 @@ module _ (limit : ℕ) (old : World) where
     goes = hears;
     outcome_is = refl;
     new_is = refl;
-  }))))
+  })))))
   came (step.no_replica {event = event} {r = r} to none) = inr (inl (record { r = r; to = to; none = none; outcome_is = refl; new_is = refl }))
   came (step.no_message {k = k} {wishes = wishes} none) = inr (inr (inl (record { none = none; outcome_is = refl; new_is = refl })))
   came (step.no_memory {event = event}) = inl (refl, refl)
@@ -259,6 +296,10 @@ module _ (limit : ℕ) (old : World) where
       let is : None ≡ Some s = sym none ∙ (sym (ap step.receiver there) ∙ to) in
       absurd cc
 
+  asked_of_none : (to : Option ℕ) (asked : Asked) → step.receiver (Some (asks_for to asked)) ≡ None
+  asked_of_none (Some r) asked = refl
+  asked_of_none None asked = refl
+
   pub has_replica : (event : Event) (outcome : Outcome) (new : World) (s : ℕ) → Came event outcome new → addressee old event ≡ Some s → slice_get old.members s ≡ None → ⊥
   has_replica (OnEdit r asked) outcome new s came to none = member_there r s came.before to came.was none
   has_replica (MakePush r) outcome new s came to none = member_there r s came.before to came.was none
@@ -267,5 +308,7 @@ module _ (limit : ℕ) (old : World) where
   has_replica (AskCatch r count) outcome new s came to none = member_there r s came.before to came.was none
   has_replica (Restart r) outcome new s came to none = member_there r s came.before to came.was none
   has_replica (Deliver k wishes) outcome new s (inl missed) to none = not_to_one k s None missed.none refl to
-  has_replica (Deliver k wishes) outcome new s (inr (inl served)) to none = not_to_one k s (Some (Asks served.r served.asked)) served.there refl to
-  has_replica (Deliver k wishes) outcome new s (inr (inr hears)) to none = receiver_there k hears.r s hears.answer hears.before hears.there to hears.was none
+  has_replica (AskWiden wider) outcome new s came to none = let is : None ≡ Some s = to in absurd cc
+  has_replica (Deliver k wishes) outcome new s (inr (inl served)) to none = not_to_one k s (Some (asks_for served.to served.asked)) served.there (asked_of_none served.to served.asked) to
+  has_replica (Deliver k wishes) outcome new s (inr (inr (inl ignored))) to none = not_to_one k s (Some (Replies ignored.answer)) ignored.there refl to
+  has_replica (Deliver k wishes) outcome new s (inr (inr (inr hears))) to none = receiver_there k hears.r s hears.answer hears.before hears.there to hears.was none

@@ -1,5 +1,5 @@
 -- In the same world an event has one outcome, and leaves the same world.
-use Rattle.std.proofs.Common.{◌≡◌, ◌∙◌, ◌++◌, ℕ, zero, suc, List, [], ◌∷◌, Some, None, Result, Ok, Err, length, slice_get, refl, sym, ap, subst, inl, inr, arith}
+use Rattle.std.proofs.Common.{◌≡◌, ◌∙◌, ◌++◌, ℕ, zero, suc, List, [], ◌∷◌, Some, None, Result, Ok, Err, length, slice_get, refl, sym, ap, subst, inl, inr, arith, Option}
 use Rattle.cs_conflict.specs.declared.wish.Wish.{Wish}
 use Rattle.cs_hub.specs.Laws.{OneService}
 use Rattle.cs_hub.specs.Serves.{Serves, ServesIf}
@@ -25,17 +25,21 @@ use Rattle.cs_wire.specs.declared.answer.Answer.{Answer}
 use Rattle.cs_wire.specs.declared.answer.Answer.TheVariants.{Short}
 use Rattle.cs_wire.specs.declared.short_answer.ShortAnswer.TheVariants.{Refused}
 use Rattle.cs_world.specs.Laws.{OneRun, OneStep, StepsAreSound}
+use Rattle.cs_world.specs.Wider.{Wider}
 use Rattle.cs_world.specs.Same.{IsRefused, IsSameWorld, device_code}
 use Rattle.cs_world.specs.Sound.{IsSound}
 use Rattle.cs_world.specs.Steps as step
 use Rattle.cs_world.specs.Steps.{Step, Steps, addressee, heard}
-use Rattle.cs_world.specs.World.{Asks, IsMember, IsMessage, Member, Sent, Tells, World, with_log, with_member, with_message}
+use Rattle.cs_world.specs.World.{Asks, IsMember, IsMessage, Member, Orders, Replies, Sent, Tells, World, with_log, with_member, with_message}
 use Rattle.cs_world.specs.declared.event.Event.{Event}
-use Rattle.cs_world.specs.declared.event.Event.TheVariants.{AskCatch, AskPull, Deliver, MakePush, OnEdit, Resend, Restart}
+use Rattle.cs_world.specs.declared.event.Event.TheVariants.{AskCatch, AskPull, AskWiden, Deliver, MakePush, OnEdit, Resend, Restart}
 use Rattle.cs_world.specs.declared.outcome.Outcome.{Outcome}
 use Rattle.cs_world.specs.declared.outcome.Outcome.TheVariants as told
-use Rattle.cs_world.proofs.Came.{Answered, AskedFrom, AskedOnceMore, Came, Comes, Edited, HeardOf, IsRead, Missed, Pushed, Reread, ask_outcome, came, edit_outcome, has_replica, read_outcome, with_asked}
+use Rattle.cs_world.proofs.Came.{Answered, AskedFrom, AskedOnceMore, Came, Comes, Edited, HeardOf, IsRead, Missed, OrderedOf, Pushed, Reread, ToldNobody, ask_outcome, asks_for, came, edit_outcome, has_replica, read_outcome, tells_to, with_asked}
 use Rattle.cs_world.proofs.Found.{added, set_at, set_length, still}
+
+same_Some : {X : Type 0} {a b : X} → Some a ≡ Some b → a ≡ b
+same_Some e = cc
 
 -- the laws below
 pub record Below : Type 0 where
@@ -95,7 +99,7 @@ sent_same world other message same = record {
 logged_same : (world other : World) (log : List LogEntry) → IsSameWorld world other → IsSameWorld (with_log world log) (with_log other log)
 logged_same world other log same = record { tables = same.tables; log = refl; messages = same.messages; count = same.count; members = same.members }
 
-turned_same : (world other : World) (r : ℕ) (member its : Member) → IsSameWorld world other → IsSameMember world.tables member its → IsSameWorld (with_member world r member) (with_member other r its)
+turned_same : (world other : World) (r : ℕ) (member its : Member) → IsSameWorld world other → IsSameMember member its → IsSameWorld (with_member world r member) (with_member other r its)
 turned_same world other r member its same alike = record {
   tables = same.tables;
   log = same.log;
@@ -104,7 +108,7 @@ turned_same world other r member its same alike = record {
   members = λ j one last at there. elim (set_at world.members r member j one at) [
     | inl here ↦ elim (set_at other.members r its j last there) [
       | inl so ↦
-          subst (λ (m : Member). IsSameMember world.tables m last) (sym here.1) (subst (λ (m : Member). IsSameMember world.tables member m) (sym so.1) alike)
+          subst (λ (m : Member). IsSameMember m last) (sym here.1) (subst (λ (m : Member). IsSameMember member m) (sym so.1) alike)
       | inr apart ↦ absurd (apart.0 here.0)
     ]
     | inr away ↦ elim (set_at other.members r its j last there) [
@@ -123,7 +127,7 @@ module _ (laws : Below) (limit : ℕ) (old : World) (ms : List Member) where
 
   module _ (s : IsSound limit old) (t : IsSound limit twin) (same : IsSameWorld old twin) where
     -- some store shows a replica
-    shown_there : (world : World) → IsSound limit world → (r : ℕ) (member : Member) → IsMember world r member → IsShown world.tables member
+    shown_there : (world : World) → IsSound limit world → (r : ℕ) (member : Member) → IsMember world r member → IsShown member
     shown_there world sound r member was = let p = sound.placed r member was in record { contents = p.contents; shows = p.shown }
 
     -- ---- a replica's own steps
@@ -131,7 +135,7 @@ module _ (laws : Below) (limit : ℕ) (old : World) (ms : List Member) where
     edited_once : (r : ℕ) (asked : Edit) (some other : Outcome) (new last : World) → (IsRefused some new → ⊥) → (IsRefused other last → ⊥) → Edited limit old r asked some new → Edited limit twin r asked other last → (some ≡ other) × IsSameWorld new last
     edited_once r asked some other new last not never one two =
         let all =
-        laws.edited old.tables asked one.result two.result one.before two.before one.after two.after (same.members r one.before two.before one.was two.was)
+        laws.edited asked one.result two.result one.before two.before one.after two.after (same.members r one.before two.before one.was two.was)
         (edit_tells one.result new (not_as some (edit_outcome one.result) new one.outcome_is not)) (edit_tells two.result last (not_as other (edit_outcome two.result) last two.outcome_is never)) one.goes two.goes in (
           one.outcome_is ∙ (ap edit_outcome all.0 ∙ sym two.outcome_is),
           same_as (with_member old r one.after) (with_member twin r two.after) new last one.new_is two.new_is (turned_same old twin r one.after two.after same all.1),
@@ -148,7 +152,7 @@ module _ (laws : Below) (limit : ℕ) (old : World) (ms : List Member) where
     pushed_once : (r : ℕ) (some other : Outcome) (new last : World) → (IsRefused some new → ⊥) → (IsRefused other last → ⊥) → Pushed limit old r some new → Pushed limit twin r other last → (some ≡ other) × IsSameWorld new last
     pushed_once r some other new last not never one two =
         let all =
-        laws.pushed old.tables one.result two.result one.before two.before one.after two.after s.tables (same.members r one.before two.before one.was two.was)
+        laws.pushed one.result two.result one.before two.before one.after two.after (s.placed r one.before one.was).are (same.members r one.before two.before one.was two.was)
         (push_tells (length old.messages) one.result new (not_as some (ask_outcome (length old.messages) one.result) new one.outcome_is not))
         (push_tells (length old.messages) two.result last (not_as other (ask_outcome (length old.messages) two.result) last two.outcome_is never)) one.goes two.goes in (
           one.outcome_is ∙ (ap (ask_outcome (length old.messages)) all.0 ∙ sym two.outcome_is),
@@ -160,7 +164,7 @@ module _ (laws : Below) (limit : ℕ) (old : World) (ms : List Member) where
         → (some ≡ other) × IsSameWorld new last
     asked_again_once r some other new last not never one two =
         let results : one.result ≡ two.result =
-        laws.resent old.tables one.result two.result one.before two.before (shown_there old s r one.before one.was) (same.members r one.before two.before one.was two.was)
+        laws.resent one.result two.result one.before two.before (shown_there old s r one.before one.was) (same.members r one.before two.before one.was two.was)
         (push_tells (length old.messages) one.result new (not_as some (ask_outcome (length old.messages) one.result) new one.outcome_is not))
         (push_tells (length old.messages) two.result last (not_as other (ask_outcome (length old.messages) two.result) last two.outcome_is never)) one.goes two.goes in (
           one.outcome_is ∙ (ap (ask_outcome (length old.messages)) results ∙ sym two.outcome_is),
@@ -192,8 +196,19 @@ module _ (laws : Below) (limit : ℕ) (old : World) (ms : List Member) where
     never_missed : (k : ℕ) (message : Sent) → slice_get old.messages k ≡ None → IsMessage old k message → ⊥
     never_missed k message none there = let is : None ≡ Some message = sym none ∙ there in absurd cc
 
-    never_both : (k r q : ℕ) (asked : Asked) (answer : Answer) → IsMessage old k (Asks r asked) → IsMessage old k (Tells q answer) → ⊥
-    never_both k r q asked answer there here = let is : Some (Asks r asked) ≡ Some (Tells q answer) = sym there ∙ here in absurd cc
+    asked_not_told : (to who : Option ℕ) (asked : Asked) (answer : Answer) → asks_for to asked ≡ tells_to who answer → ⊥
+    asked_not_told None None asked answer is = cc
+    asked_not_told None (Some q) asked answer is = cc
+    asked_not_told (Some r) None asked answer is = cc
+    asked_not_told (Some r) (Some q) asked answer is = cc
+
+    never_both : (k : ℕ) (to who : Option ℕ) (asked : Asked) (answer : Answer) → IsMessage old k (asks_for to asked) → IsMessage old k (tells_to who answer) → ⊥
+    never_both k to who asked answer there here =
+        let is : Some (asks_for to asked) ≡ Some (tells_to who answer) = sym there ∙ here in
+        asked_not_told to who asked answer (same_Some is)
+
+    never_two : (k r : ℕ) (answer other : Answer) → IsMessage old k (Replies answer) → IsMessage old k (Tells r other) → ⊥
+    never_two k r answer other there here = let is : Some (Replies answer) ≡ Some (Tells r other) = sym there ∙ here in absurd cc
 
     one_answer : (some other : Answer) → FitsAnswer some → FitsAnswer other → answer_spelling some ≡ answer_spelling other → some ≡ other
     one_answer some other fits its_fits alike =
@@ -201,54 +216,70 @@ module _ (laws : Below) (limit : ℕ) (old : World) (ms : List Member) where
         cc
 
     -- the hub answers by its log, where its answer doesn't tell that its device failed
-    by_log : (r : ℕ) (asked : Asked) (answer : Answer) (log : List LogEntry) (world : World) → FitsAnswer answer → (IsRefused (told.Sent (length world.messages)) (with_message (with_log world log) (Tells r answer)) → ⊥)
+    by_log : (to : Option ℕ) (asked : Asked) (answer : Answer) (log : List LogEntry) (world : World) → FitsAnswer answer → (IsRefused (told.Sent (length world.messages)) (with_message (with_log world log) (tells_to to answer)) → ⊥)
         → ServesIf (Unit {0}) limit (hub_of old.tables old.log) (request_spelling asked) (answer_spelling answer) (hub_of old.tables log)
         → Serves limit (hub_of old.tables old.log) (request_spelling asked) (answer_spelling answer) (hub_of old.tables log)
-    by_log r asked answer log world fits not (inl serves) = serves
-    by_log r asked answer log world fits not (inr (failed, is, stays)) =
+    by_log to asked answer log world fits not (inl serves) = serves
+    by_log (Some r) asked answer log world fits not (inr (failed, is, stays)) =
         let told_so : answer ≡ Short (Refused device_code) = one_answer answer (Short (Refused device_code)) fits (omega arith) is in
-        absurd (not (r, subst (λ (a : Answer). slice_get (world.messages ++ Tells r answer ∷ []) (length world.messages) ≡ Some (Tells r a)) told_so (added world.messages (Tells r answer))))
+        absurd (not (inl (r, subst (λ (a : Answer). slice_get (world.messages ++ Tells r answer ∷ []) (length world.messages) ≡ Some (Tells r a)) told_so (added world.messages (Tells r answer)))))
+    by_log None asked answer log world fits not (inr (failed, is, stays)) =
+        let told_so : answer ≡ Short (Refused device_code) = one_answer answer (Short (Refused device_code)) fits (omega arith) is in
+        absurd (not (inr (subst (λ (a : Answer). slice_get (world.messages ++ Replies answer ∷ []) (length world.messages) ≡ Some (Replies a)) told_so (added world.messages (Replies answer)))))
+
+    one_asked : (to who : Option ℕ) (asked other : Asked) → asks_for to asked ≡ asks_for who other → (to ≡ who) × (asked ≡ other)
+    one_asked None None asked other is = (refl, cc)
+    one_asked None (Some q) asked other is = absurd (cc)
+    one_asked (Some r) None asked other is = absurd (cc)
+    one_asked (Some r) (Some q) asked other is = let same : r ≡ q = cc in (ap (λ (n : ℕ). Some n) same, cc)
 
     answered_alike : (k : ℕ) (some other : Outcome) (new last : World) → (IsRefused some new → ⊥) → (IsRefused other last → ⊥) → (one : Answered limit old k some new) (two : Answered limit twin k other last)
-        → two.r ≡ one.r → two.asked ≡ one.asked → (some ≡ other) × IsSameWorld new last
+        → two.to ≡ one.to → two.asked ≡ one.asked → (some ≡ other) × IsSameWorld new last
     answered_alike k some other new last not never one two to what =
-        let after_one = with_message (with_log old one.log) (Tells one.r one.answer) in
-        let after_two = with_message (with_log twin two.log) (Tells two.r two.answer) in
+        let after_one = with_message (with_log old one.log) (tells_to one.to one.answer) in
+        let after_two = with_message (with_log twin two.log) (tells_to two.to two.answer) in
         let first =
-        by_log one.r one.asked one.answer one.log old one.fits
+        by_log one.to one.asked one.answer one.log old one.fits
         (λ refused. not (subst (λ (w : World). IsRefused some w) (sym one.new_is) (subst (λ (o : Outcome). IsRefused o after_one) (sym one.outcome_is) refused))) one.goes in
         let second =
-        by_log two.r two.asked two.answer two.log twin two.fits
+        by_log two.to two.asked two.answer two.log twin two.fits
         (λ refused. never (subst (λ (w : World). IsRefused other w) (sym two.new_is) (subst (λ (o : Outcome). IsRefused o after_two) (sym two.outcome_is) refused))) two.goes in
         let second_of = subst (λ (a : Asked). Serves limit (hub_of old.tables old.log) (request_spelling a) (answer_spelling two.answer) (hub_of old.tables two.log)) what second in
         let both =
         laws.service limit (hub_of old.tables old.log) (hub_of old.tables one.log) (hub_of old.tables two.log) (request_spelling one.asked) (answer_spelling one.answer) (answer_spelling two.answer) (record { tables = s.tables; log = s.log }) first second_of in
         let answers : one.answer ≡ two.answer = one_answer one.answer two.answer one.fits two.fits both.0 in
         let logs : one.log ≡ two.log = ap (λ (h : HubState). h.log) both.1 in
-        let there : last ≡ with_message (with_log twin one.log) (Tells one.r one.answer) =
+        let there : last ≡ with_message (with_log twin one.log) (tells_to one.to one.answer) =
         two.new_is
-        ∙ (ap (λ (l : List LogEntry). with_message (with_log twin l) (Tells two.r two.answer)) (sym logs)
-        ∙ (ap (λ (a : Answer). with_message (with_log twin one.log) (Tells two.r a)) (sym answers)
-        ∙ ap (λ (q : ℕ). with_message (with_log twin one.log) (Tells q one.answer)) to)) in (
+        ∙ (ap (λ (l : List LogEntry). with_message (with_log twin l) (tells_to two.to two.answer)) (sym logs)
+        ∙ (ap (λ (a : Answer). with_message (with_log twin one.log) (tells_to two.to a)) (sym answers)
+        ∙ ap (λ (q : Option ℕ). with_message (with_log twin one.log) (tells_to q one.answer)) to)) in (
           one.outcome_is ∙ sym two.outcome_is,
-          same_as after_one (with_message (with_log twin one.log) (Tells one.r one.answer)) new last one.new_is there
-              (sent_same (with_log old one.log) (with_log twin one.log) (Tells one.r one.answer) (logged_same old twin one.log same)),
+          same_as after_one (with_message (with_log twin one.log) (tells_to one.to one.answer)) new last one.new_is there
+              (sent_same (with_log old one.log) (with_log twin one.log) (tells_to one.to one.answer) (logged_same old twin one.log same)),
         )
 
     answered_once : (k : ℕ) (some other : Outcome) (new last : World) → (IsRefused some new → ⊥) → (IsRefused other last → ⊥) → Answered limit old k some new → Answered limit twin k other last → (some ≡ other) × IsSameWorld new last
     answered_once k some other new last not never one two =
-        let is : Some (Asks two.r two.asked) ≡ Some (Asks one.r one.asked) = sym two.there ∙ one.there in
-        let to : two.r ≡ one.r = cc in
-        let what : two.asked ≡ one.asked = cc in
-        answered_alike k some other new last not never one two to what
+        let is : Some (asks_for two.to two.asked) ≡ Some (asks_for one.to one.asked) = sym two.there ∙ one.there in
+        let both = one_asked two.to one.to two.asked one.asked (same_Some is) in
+        answered_alike k some other new last not never one two both.0 both.1
+
+    ignored_once : (k : ℕ) (some other : Outcome) (new last : World) → ToldNobody limit old k some new → ToldNobody limit twin k other last → (some ≡ other) × IsSameWorld new last
+    ignored_once k some other new last one two = (one.outcome_is ∙ sym two.outcome_is, same_as old twin new last one.new_is two.new_is same)
+
+    ordered_once : (wider : Wider) (some other : Outcome) (new last : World) → OrderedOf limit old wider some new → OrderedOf limit twin wider other last → (some ≡ other) × IsSameWorld new last
+    ordered_once wider some other new last one two =
+        let message = Orders (step.asked_of_wider wider) in
+        (one.outcome_is ∙ sym two.outcome_is, same_as (with_message old message) (with_message twin message) new last one.new_is two.new_is (sent_same old twin message same))
 
     heard_alike : (k : ℕ) (wishes : List Wish) (some other : Outcome) (new last : World) → (IsRefused some new → ⊥) → (IsRefused other last → ⊥) → (one : HeardOf limit old k wishes some new) (two : HeardOf limit twin k wishes other last)
         → two.r ≡ one.r → two.answer ≡ one.answer → (some ≡ other) × IsSameWorld new last
     heard_alike k wishes some other new last not never one two to what =
         let was = subst (λ (q : ℕ). IsMember twin q two.before) to two.was in
-        let goes = subst (λ (a : Answer). step.Hears old.tables two.before a wishes two.result two.after) what two.goes in
+        let goes = subst (λ (a : Answer). step.Hears two.before a wishes two.result two.after) what two.goes in
         let all =
-        laws.heard old.tables one.answer wishes one.result two.result one.before two.before one.after two.after s.tables
+        laws.heard one.answer wishes one.result two.result one.before two.before one.after two.after (s.placed one.r one.before one.was).are
         (shown_there old s one.r one.before one.was) (shown_there twin t one.r two.before was) (same.members one.r one.before two.before one.was was)
         (answer_tells one.result new (not_as some (heard one.result) new one.outcome_is not)) (answer_tells two.result last (not_as other (heard two.result) last two.outcome_is never)) one.goes goes in
         let there : last ≡ with_member twin one.r two.after = two.new_is ∙ ap (λ (q : ℕ). with_member twin q two.after) to in (
@@ -274,15 +305,23 @@ module _ (laws : Below) (limit : ℕ) (old : World) (ms : List Member) where
     came_once (AskCatch r count) some other new last not never one two =
         asked_from_once r (λ position. AsksCatch position.id position.version count) some other new last one two
     came_once (Restart r) some other new last not never one two = read_once r some other new last not never one two
+    came_once (AskWiden wider) some other new last not never one two = ordered_once wider some other new last one two
     came_once (Deliver k wishes) some other new last not never (inl one) (inl two) = missed_once k some other new last one two
-    came_once (Deliver k wishes) some other new last not never (inl one) (inr (inl two)) = absurd (never_missed k (Asks two.r two.asked) one.none two.there)
-    came_once (Deliver k wishes) some other new last not never (inl one) (inr (inr two)) = absurd (never_missed k (Tells two.r two.answer) one.none two.there)
-    came_once (Deliver k wishes) some other new last not never (inr (inl one)) (inl two) = absurd (never_missed k (Asks one.r one.asked) two.none one.there)
+    came_once (Deliver k wishes) some other new last not never (inl one) (inr (inl two)) = absurd (never_missed k (asks_for two.to two.asked) one.none two.there)
+    came_once (Deliver k wishes) some other new last not never (inl one) (inr (inr (inl two))) = absurd (never_missed k (Replies two.answer) one.none two.there)
+    came_once (Deliver k wishes) some other new last not never (inl one) (inr (inr (inr two))) = absurd (never_missed k (Tells two.r two.answer) one.none two.there)
+    came_once (Deliver k wishes) some other new last not never (inr (inl one)) (inl two) = absurd (never_missed k (asks_for one.to one.asked) two.none one.there)
     came_once (Deliver k wishes) some other new last not never (inr (inl one)) (inr (inl two)) = answered_once k some other new last not never one two
-    came_once (Deliver k wishes) some other new last not never (inr (inl one)) (inr (inr two)) = absurd (never_both k one.r two.r one.asked two.answer one.there two.there)
-    came_once (Deliver k wishes) some other new last not never (inr (inr one)) (inl two) = absurd (never_missed k (Tells one.r one.answer) two.none one.there)
-    came_once (Deliver k wishes) some other new last not never (inr (inr one)) (inr (inl two)) = absurd (never_both k two.r one.r two.asked one.answer two.there one.there)
-    came_once (Deliver k wishes) some other new last not never (inr (inr one)) (inr (inr two)) = heard_once k wishes some other new last not never one two
+    came_once (Deliver k wishes) some other new last not never (inr (inl one)) (inr (inr (inl two))) = absurd (never_both k one.to None one.asked two.answer one.there two.there)
+    came_once (Deliver k wishes) some other new last not never (inr (inl one)) (inr (inr (inr two))) = absurd (never_both k one.to (Some two.r) one.asked two.answer one.there two.there)
+    came_once (Deliver k wishes) some other new last not never (inr (inr (inl one))) (inl two) = absurd (never_missed k (Replies one.answer) two.none one.there)
+    came_once (Deliver k wishes) some other new last not never (inr (inr (inl one))) (inr (inl two)) = absurd (never_both k two.to None two.asked one.answer two.there one.there)
+    came_once (Deliver k wishes) some other new last not never (inr (inr (inl one))) (inr (inr (inl two))) = ignored_once k some other new last one two
+    came_once (Deliver k wishes) some other new last not never (inr (inr (inl one))) (inr (inr (inr two))) = absurd (never_two k two.r one.answer two.answer one.there two.there)
+    came_once (Deliver k wishes) some other new last not never (inr (inr (inr one))) (inl two) = absurd (never_missed k (Tells one.r one.answer) two.none one.there)
+    came_once (Deliver k wishes) some other new last not never (inr (inr (inr one))) (inr (inl two)) = absurd (never_both k two.to (Some one.r) two.asked one.answer two.there one.there)
+    came_once (Deliver k wishes) some other new last not never (inr (inr (inr one))) (inr (inr (inl two))) = absurd (never_two k one.r two.answer one.answer two.there one.there)
+    came_once (Deliver k wishes) some other new last not never (inr (inr (inr one))) (inr (inr (inr two))) = heard_once k wishes some other new last not never one two
 
     -- whom it is for doesn't change with the replicas
     to_same : (event : Event) → addressee twin event ≡ addressee old event
@@ -293,6 +332,7 @@ module _ (laws : Below) (limit : ℕ) (old : World) (ms : List Member) where
     to_same (AskCatch r count) = refl
     to_same (Deliver k wishes) = refl
     to_same (Restart r) = refl
+    to_same (AskWiden wider) = refl
 
     comes_once : (event : Event) (some other : Outcome) (new last : World) → (IsRefused some new → ⊥) → (IsRefused other last → ⊥) → Comes limit old event some new → Comes limit twin event other last → (some ≡ other) × IsSameWorld new last
     comes_once event some other new last not never (inl (memory, stays)) two = absurd (not_as some told.Memory new memory not tt)
@@ -335,6 +375,9 @@ step_keeps limit old new event outcome k message one there = keeps one there
     keeps (step.restarts was) there = there
     keeps (step.restarts_not was why) there = there
     keeps (step.serves answer at fits serves) there = still old.messages _ message k there
+    keeps (step.obeys answer at fits serves) there = still old.messages _ message k there
+    keeps (step.orders fits) there = still old.messages _ message k there
+    keeps (step.ignores at) there = there
     keeps (step.hears at was hears) there = there
     keeps (step.no_replica to none) there = there
     keeps (step.no_message none) there = there
@@ -350,7 +393,8 @@ steps_keep limit old new (event ∷ events) [] k message none there = absurd non
 -- what is refused after one of the events is refused after all
 refused_on : (limit : ℕ) (old new : World) (events : List Event) (outcomes : List Outcome) (outcome : Outcome) → Steps limit old events outcomes new → IsRefused outcome old → IsRefused outcome new
 refused_on limit old new events outcomes told.Done steps refused = refused
-refused_on limit old new events outcomes (told.Sent number) steps (r, there) = (r, steps_keep limit old new events outcomes number (Tells r (Short (Refused device_code))) steps there)
+refused_on limit old new events outcomes (told.Sent number) steps (inl (r, there)) = inl (r, steps_keep limit old new events outcomes number (Tells r (Short (Refused device_code))) steps there)
+refused_on limit old new events outcomes (told.Sent number) steps (inr there) = inr (steps_keep limit old new events outcomes number (Replies (Short (Refused device_code))) steps there)
 refused_on limit old new events outcomes (told.Heard what) steps refused = refused
 refused_on limit old new events outcomes told.NoReplica steps refused = refused
 refused_on limit old new events outcomes told.NoMessage steps refused = refused

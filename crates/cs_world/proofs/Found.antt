@@ -1,6 +1,7 @@
 -- What stands in a list that grew, of which one item was replaced, or of which a part was taken.
-use Rattle.std.proofs.Common.{◌≡◌, ◌≢◌, ◌≤◌, ◌+◌, ◌++◌, ℕ, zero, suc, List, [], ◌∷◌, Option, Some, None, length, slice_get, slice_set, take, drop, refl, sym, ap, subst, inl, inr, arith}
-use Rattle.std.specs.Prelude.{◌⊎◌, IsSome}
+use Rattle.std.proofs.Common.{◌<◌, ◌≡◌, ◌≢◌, ◌≤◌, ◌+◌, ◌++◌, ℕ, zero, suc, List, [], ◌∷◌, Option, Some, None, length, slice_get, slice_set, take, drop, refl, sym, ap, subst, inl, inr, arith}
+use Rattle.std.specs.Prelude.{◌⊎◌, All, IsSome}
+use Rattle.std.proofs.lemmas.List.Elements.{All-cons, All-head, All-nil, All-tail}
 
 pub some_is : {X : Type 0} {o : Option X} {x : X} → o ≡ Some x → IsSome o
 some_is {o = o} {x = x} is = rw is refl
@@ -104,3 +105,46 @@ in_drop (suc f) (z ∷ zs) j x h =
 -- nothing stands in no list
 pub nowhere : {X : Type 0} (x : X) (k : ℕ) → slice_get [] k ≡ Some x → ⊥
 nowhere x k at = absurd (cc)
+
+-- what is so of what stands at each place is so of all
+pub all_from : {X : Type 0} (P : X → Type 0) (xs : List X) → ((at : ℕ) (x : X) → slice_get xs at ≡ Some x → P x) → All P xs
+all_from P [] each = All-nil P
+all_from P (y ∷ ys) each = All-cons P y ys (each 0 y refl) (all_from P ys (λ at x there. each (suc at) x there))
+
+-- what stands between two places stands in what is taken of the list there
+pub between_at : {X : Type 0} (from to : ℕ) (xs : List X) (j : ℕ) (x : X) → from + j < to → slice_get xs (from + j) ≡ Some x → slice_get (drop from (take to xs)) j ≡ Some x
+between_at from zero xs j x below at = absurd (omega (arith, below))
+between_at zero (suc to) [] j x below at = absurd (cc)
+between_at (suc from) (suc to) [] j x below at = absurd (cc)
+between_at zero (suc to) (z ∷ zs) zero x below at = at
+between_at zero (suc to) (z ∷ zs) (suc j) x below at =
+    let n : 0 + suc j ≡ suc (0 + j) = omega arith in
+    between_at zero to zs j x (omega (arith, below)) (subst (λ (i : ℕ). slice_get (z ∷ zs) i ≡ Some x) n at)
+between_at (suc from) (suc to) (z ∷ zs) j x below at =
+    let n : suc from + j ≡ suc (from + j) = omega arith in
+    between_at from to zs j x (omega (arith, below)) (subst (λ (i : ℕ). slice_get (z ∷ zs) i ≡ Some x) n at)
+
+-- what is so of all is so of what stands at a place
+pub all_at : {X : Type 0} (P : X → Type 0) (xs : List X) (at : ℕ) (x : X) → All P xs → slice_get xs at ≡ Some x → P x
+all_at P [] at x all there = absurd (cc)
+all_at P (y ∷ ys) zero x all there = let is : y ≡ x = cc in subst P is (All-head P y ys all)
+all_at P (y ∷ ys) (suc at) x all there = all_at P ys at x (All-tail P y ys all) there
+
+-- something stands at each place below the length
+pub there_below : {X : Type 0} (xs : List X) (at : ℕ) → at < length xs → (x : X) × (slice_get xs at ≡ Some x)
+there_below [] at below = absurd (omega (arith, below))
+there_below (y ∷ ys) zero below = (y, refl)
+there_below (y ∷ ys) (suc at) below = there_below ys at (omega (arith, below))
+
+-- what stands behind a place stands in a front of what is behind it
+pub front_at : {X : Type 0} (count from : ℕ) (xs : List X) (j : ℕ) (x : X) → j < count → slice_get xs (from + j) ≡ Some x → slice_get (take count (drop from xs)) j ≡ Some x
+front_at zero from xs j x below at = absurd (omega (arith, below))
+front_at (suc count) zero [] j x below at = absurd (cc)
+front_at (suc count) (suc from) [] j x below at = absurd (cc)
+front_at (suc count) zero (z ∷ zs) zero x below at = at
+front_at (suc count) zero (z ∷ zs) (suc j) x below at =
+    let n : 0 + suc j ≡ suc (0 + j) = omega arith in
+    front_at count zero zs j x (omega (arith, below)) (subst (λ (i : ℕ). slice_get (z ∷ zs) i ≡ Some x) n at)
+front_at (suc count) (suc from) (z ∷ zs) j x below at =
+    let n : suc from + j ≡ suc (from + j) = omega arith in
+    front_at (suc count) from zs j x below (subst (λ (i : ℕ). slice_get (z ∷ zs) i ≡ Some x) n at)

@@ -1,20 +1,26 @@
 -- A world goes on to another: its log and its messages grow, and what was so stays so.
 use Rattle.std.proofs.Common.{◌≡◌, ◌≢◌, ◌≤◌, ◌+◌, ◌∙◌, ◌++◌, ℕ, List, [], ◌∷◌, Some, length, slice_get, slice_set, refl, sym, ap, subst, inl, inr, arith, append-nil, length-append}
-use Rattle.std.specs.Prelude.{◌⊎◌, All}
+use Rattle.std.specs.Prelude.{◌⊎◌}
 use Rattle.cs_value.specs.declared.catalog.TableDef.{TableDef}
 use Rattle.cs_store.specs.log.Laws.{LongerLog}
-use Rattle.cs_store.specs.log.Log.{IsLog, tables_at}
+use Rattle.cs_store.specs.log.Log.{IsLog, catalog_at, tables_at}
+use Rattle.cs_store.specs.declared.log.body.Body.{Body}
+use Rattle.cs_store.specs.declared.log.body.Body.TheVariants.{Changes, Widen}
 use Rattle.cs_store.specs.declared.log.entry.LogEntry.{LogEntry}
+use Rattle.cs_normal.specs.Normal.{normal_spelling}
 use Rattle.cs_normal.specs.State.{IsDefinedOn, State}
 use Rattle.cs_normal.specs.declared.normal.TableChanges.{TableChanges}
+use Rattle.cs_store.specs.log.Stored.{AreChangesOf}
 use Rattle.cs_hub.specs.catching.Laws.{OthersAsLogGrows}
+use Rattle.cs_hub.specs.catching.Told.{AreOthersAsOne}
 use Rattle.cs_replica.specs.Laws.{StandsLonger}
 use Rattle.cs_wire.specs.Requests.{Asked, AsksCatch, AsksPull, AsksPush, AsksWiden}
+use Rattle.cs_wire.specs.declared.answer.Answer.{Answer}
 use Rattle.cs_wire.specs.declared.answer.Answer.TheVariants.{Short, Entries, Merged}
 use Rattle.cs_wire.specs.declared.push_head.PushHead.{PushHead}
 use Rattle.cs_wire.specs.declared.short_answer.ShortAnswer.TheVariants.{Accepted, Stale, Refused}
-use Rattle.cs_world.specs.Sound.{IsAcceptedIn, IsPlaced, IsSound, IsStoredEntry, IsTrue, IsTruePush, WasAsked, push_of}
-use Rattle.cs_world.specs.World.{Asks, FitsSent, IsMember, Member, Sent, Tells, World, with_member, with_message}
+use Rattle.cs_world.specs.Sound.{AreStored, IsAcceptedIn, IsPlaced, IsSound, IsTrue, IsTrueAnswer, IsTruePush, WasAsked, WasOffered, WasOfferedAt, WasOrdered}
+use Rattle.cs_world.specs.World.{Asks, FitsSent, IsMember, Member, Orders, Replies, Sent, Tells, World, with_member, with_message}
 use Rattle.cs_world.proofs.Found.{in_append, in_one, nowhere, set_at, still}
 
 -- this was asked by one of these messages
@@ -51,6 +57,16 @@ module _ (longer : LongerLog) (stands : StandsLonger) (others : OthersAsLogGrows
     asked_on asked there =
         (there.0, there.1, rw goes.messages_are (still w.messages sent (Asks there.1 asked) there.0 there.2))
 
+    ordered_on : (asked : Asked) → WasOrdered w asked → WasOrdered w' asked
+    ordered_on asked there = (there.0, rw goes.messages_are (still w.messages sent (Orders asked) there.0 there.1))
+
+    offered_so : (head : PushHead) (body : Body) → WasOffered w head body → WasOffered w' head body
+    offered_so head (Changes changes) was = asked_on (AsksPush head (normal_spelling changes)) was
+    offered_so head (Widen table width) was = (was.0, ordered_on (AsksWiden head.number head.base width table) was.1)
+
+    pub offered_on : (at : ℕ) (entry : LogEntry) → WasOfferedAt w at entry → WasOfferedAt w' at entry
+    offered_on at entry was = offered_so (record { origin = entry.origin; number = entry.number; base = at }) entry.body was
+
     pub entry_on : (entry : LogEntry) (at : ℕ) → slice_get w.log at ≡ Some entry → slice_get w'.log at ≡ Some entry
     entry_on entry at there = rw goes.log_is (still w.log goes.more entry at there)
 
@@ -58,19 +74,24 @@ module _ (longer : LongerLog) (stands : StandsLonger) (others : OthersAsLogGrows
     tables_on version within =
         ap (λ (l : List LogEntry). tables_at l version) goes.log_is ∙ (longer w.tables w.log goes.more version within).1
 
+    catalog_on : (version : ℕ) → version ≤ length w.log → catalog_at w'.tables w'.log version ≡ catalog_at w.tables w.log version
+    catalog_on version within =
+        ap (λ (ts : List TableDef). catalog_at ts w'.log version) goes.tables_same
+        ∙ (ap (λ (l : List LogEntry). catalog_at w.tables l version) goes.log_is ∙ (longer w.tables w.log goes.more version within).0)
+
     pub within_on : (version : ℕ) → version ≤ length w.log → version ≤ length w'.log
     within_on version within = let n = length-append w.log goes.more in rw goes.log_is (omega (arith, within, n))
 
-    defined_on : (changes : List TableChanges) (version : ℕ) → version ≤ length w.log → IsDefinedOn w.tables changes (tables_at w.log version) → IsDefinedOn w'.tables changes (tables_at w'.log version)
+    defined_on : (changes : List TableChanges) (version : ℕ) → version ≤ length w.log → IsDefinedOn (catalog_at w.tables w.log version) changes (tables_at w.log version) → IsDefinedOn (catalog_at w'.tables w'.log version) changes (tables_at w'.log version)
     defined_on changes version within defined =
-        subst (λ (t : List TableDef). IsDefinedOn t changes (tables_at w'.log version)) (sym goes.tables_same)
-        (subst (λ (s : State). IsDefinedOn w.tables changes s) (sym (tables_on version within)) defined)
+        subst (λ (ts : List TableDef). IsDefinedOn ts changes (tables_at w'.log version)) (sym (catalog_on version within))
+        (subst (λ (s : State). IsDefinedOn (catalog_at w.tables w.log version) changes s) (sym (tables_on version within)) defined)
 
     push_on : (head : PushHead) (changeset : List ℕ) → IsTruePush w head changeset → IsTruePush w' head changeset
     push_on head changeset t = record {
       changes = t.changes;
       spelled = t.spelled;
-      of_tables = rw goes.tables_same t.of_tables;
+      of_tables = subst (λ (ts : List TableDef). AreChangesOf ts t.changes) (sym (catalog_on head.base t.within)) t.of_tables;
       size = t.size;
       within = within_on head.base t.within;
       defined = defined_on t.changes head.base t.within t.defined;
@@ -87,28 +108,39 @@ module _ (longer : LongerLog) (stands : StandsLonger) (others : OthersAsLogGrows
       numbered = a.numbered;
     }
 
-    -- what a message says stays so
+    -- what an answer says stays so
+    answer_on : (answer : Answer) → IsTrueAnswer w answer → IsTrueAnswer w' answer
+    answer_on (Short (Accepted origin number version)) t = accepted_on origin number version t
+    answer_on (Short (Stale newest)) t = tt
+    answer_on (Short (Refused code)) t = t
+    answer_on (Entries first entries) t = λ at told there.
+        let e = t at told there in
+        (e.0, entry_on e.0 (first + at) e.1, e.2)
+    answer_on (Merged origin first next changeset) t =
+        let first_within : first ≤ length w.log = (let r = t.rising in let n = t.within in omega (arith, r, n)) in
+        subst (λ (ts : List TableDef). AreOthersAsOne ts w'.log origin first next changeset) (sym (catalog_on first first_within))
+        (rw goes.log_is (others (catalog_at w.tables w.log first) w.log goes.more origin first next changeset t))
+
+    -- and what a message says
     pub true_on : (message : Sent) → IsTrue w message → IsTrue w' message
     true_on (Asks r (AsksPush head changeset)) t = push_on head changeset t
     true_on (Asks r (AsksPull first count)) t = tt
     true_on (Asks r (AsksCatch origin first count)) t = tt
     true_on (Asks r (AsksWiden number base width table)) t = t
-    true_on (Tells r (Short (Accepted origin number version))) t = accepted_on origin number version t
-    true_on (Tells r (Short (Stale newest))) t = tt
-    true_on (Tells r (Short (Refused code))) t = t
-    true_on (Tells r (Entries first entries)) t = λ at told there.
-        let e = t at told there in
-        (e.0, entry_on e.0 (first + at) e.1, e.2)
-    true_on (Tells r (Merged origin first next changeset)) t =
-        rw (goes.tables_same, goes.log_is) (others w.tables w.log goes.more origin first next changeset t)
+    true_on (Tells r answer) t = answer_on answer t
+    true_on (Orders asked) t = t
+    true_on (Replies answer) t = answer_on answer t
 
     -- a replica that stays is placed as it was
     pub placed_on : (r : ℕ) (m : Member) → IsPlaced w r m → IsPlaced w' r m
     placed_on r m p = record {
       id = p.id;
+      small = p.small;
       fits = p.fits;
       contents = p.contents;
-      shown = rw goes.tables_same p.shown;
+      tables = p.tables ∙ sym (catalog_on m.position.version p.stands.within);
+      are = p.are;
+      shown = p.shown;
       stands = rw goes.log_is (stands w.log goes.more m.position m.view p.stands);
       sent = λ changes flight. asked_on _ (p.sent changes flight);
     }
@@ -116,14 +148,14 @@ module _ (longer : LongerLog) (stands : StandsLonger) (others : OthersAsLogGrows
     -- the world goes on, and what is new is as it should be
     pub next_sound : (limit : ℕ) → IsSound limit w
         → IsLog w'.tables w'.log
-        → All (IsStoredEntry w'.tables) w'.log
+        → AreStored w'.tables w'.log
         → length w'.log ≤ limit
         → ((r : ℕ) (m : Member) → IsMember w' r m → IsPlaced w' r m)
         → ((message : Sent) (k : ℕ) → slice_get sent k ≡ Some message → FitsSent message × IsTrue w' message)
         → ((head other : PushHead) (changeset its : List ℕ) → AskedIn sent (AsksPush head changeset) → WasAsked w' (AsksPush other its) → head.origin ≡ other.origin → head.number ≡ other.number → AreOne head other changeset its)
-        → ((at : ℕ) (entry : LogEntry) → slice_get w'.log at ≡ Some entry → WasAsked w' (push_of at entry))
+        → ((at : ℕ) (entry : LogEntry) → slice_get w'.log at ≡ Some entry → WasOfferedAt w' at entry)
         → IsSound limit w'
-    next_sound limit s is_log entries short placed new_true new_once pushed = record {
+    next_sound limit s is_log entries short placed new_true new_once offered = record {
       tables = rw goes.tables_same s.tables;
       log = is_log;
       entries = entries;
@@ -148,7 +180,7 @@ module _ (longer : LongerLog) (stands : StandsLonger) (others : OthersAsLogGrows
                   | inr g ↦ let back = new_once other head its changeset g one (sym origins) (sym numbers) in (sym back.0, sym back.1)
                 ]
           ];
-      pushed = pushed;
+      offered = offered;
     }
 
   -- ---- a message is sent, and nothing else happens
@@ -171,7 +203,7 @@ module _ (longer : LongerLog) (stands : StandsLonger) (others : OthersAsLogGrows
       (λ r m at. placed_on w (with_message w message) (message ∷ []) goes r m (s.placed r m at))
       (λ m k at. let is = (in_one m message k at).1 in (rw is fits, rw is (true_on w (with_message w message) (message ∷ []) goes message t)))
       once
-      (λ at entry there. asked_on w (with_message w message) (message ∷ []) goes (push_of at entry) (s.pushed at entry there))
+      (λ at entry there. offered_on w (with_message w message) (message ∷ []) goes at entry (s.offered at entry there))
 
   -- what is no push is no second push
   pub no_push : (w' : World) (message : Sent) → ((r : ℕ) (head : PushHead) (changeset : List ℕ) → message ≢ Asks r (AsksPush head changeset))
@@ -233,7 +265,7 @@ module _ (longer : LongerLog) (stands : StandsLonger) (others : OthersAsLogGrows
           | inr p ↦ placed_on w (moved w r after sent) sent goes_moved j m (s.placed j m p.1)
         ])
         new_true new_once
-        (λ at entry there. asked_on w (moved w r after sent) sent goes_moved (push_of at entry) (s.pushed at entry there))
+        (λ at entry there. offered_on w (moved w r after sent) sent goes_moved at entry (s.offered at entry there))
 
   -- and nothing is sent
   pub quiet_sound : (limit : ℕ) (w : World) (r : ℕ) (before after : Member) → IsSound limit w → IsMember w r before → before.position.number ≤ after.position.number → IsPlaced w r after

@@ -2,8 +2,12 @@
 use Rattle.std.proofs.Common.{◌≡◌, ◌≤◌, ◌<◌, ◌+◌, ◌^◌, ◌∙◌, ℕ, List, [], ◌∷◌, Result, Ok, length, refl, sym, ap, subst, inl, inr, arith}
 use Rattle.cs_value.specs.declared.edit.Edit.{Edit}
 use Rattle.cs_conflict.specs.declared.wish.Wish.{Wish}
-use Rattle.cs_store.specs.log.Laws.{LongerLog}
+use Rattle.cs_store.specs.log.Laws.{CatalogsAreTables, LongerLog}
 use Rattle.cs_store.specs.log.Log.{tables_at}
+use Rattle.cs_store.specs.declared.log.body.Body.{Body}
+use Rattle.cs_store.specs.declared.log.body.Body.TheVariants.{Changes, Widen}
+use Rattle.cs_value.specs.Catalog.{AreTables}
+use Rattle.cs_value.specs.declared.catalog.TableDef.{TableDef}
 use Rattle.cs_store.specs.declared.log.entry.LogEntry.{LogEntry}
 use Rattle.cs_store.specs.declared.log.entry.TheConstants.{MAX_CHANGESET}
 use Rattle.cs_normal.specs.Normal.{normal_spelling}
@@ -27,19 +31,21 @@ use Rattle.cs_wire.specs.declared.answer.Answer.{Answer}
 use Rattle.cs_wire.specs.declared.push_head.PushHead.{PushHead}
 use Rattle.cs_world.specs.Headline.{IsGood}
 use Rattle.cs_world.specs.Laws.{AnswersFit, StepsAreSound}
-use Rattle.cs_world.specs.Sound.{IsPlaced, IsSound, IsTrue, IsTruePush, WasAsked, push_of}
+use Rattle.cs_store.specs.log.Stored.{AreChangesOf}
+use Rattle.cs_world.specs.Sound.{IsPlaced, IsSound, IsTrue, IsTrueAnswer, IsTrueAsked, IsTrueOrder, IsTruePush, WasAsked, WasOffered, WasOrdered}
 use Rattle.cs_world.specs.Steps as step
 use Rattle.cs_world.specs.Steps.{Step, Hears}
-use Rattle.cs_world.specs.World.{Asks, FitsSent, IsMember, IsMessage, Member, Sent, Tells, World, with_log, with_member, with_message}
+use Rattle.cs_world.specs.World.{Asks, FitsSent, IsMember, IsMessage, Member, Orders, Replies, Sent, Tells, World, with_log, with_member, with_message}
 use Rattle.cs_world.specs.declared.event.Event.{Event}
 use Rattle.cs_world.specs.declared.outcome.Outcome.{Outcome}
 use Rattle.cs_world.proofs.Found.{added, in_append, in_one, some_is}
-use Rattle.cs_world.proofs.Goes.{AreOne, AskedIn, Goes, again_sound, asked_on, asked_one, moved, moved_at, moved_sound, next_sound, no_push, placed_on, quiet_sound, said_sound}
+use Rattle.cs_world.proofs.Goes.{AreOne, AskedIn, Goes, again_sound, asked_one, moved, moved_at, moved_sound, next_sound, no_push, offered_on, placed_on, quiet_sound, said_sound}
 use Rattle.cs_world.proofs.Heard as answers
 use Rattle.cs_world.proofs.Served as service
 
 pub record Below : Type 0 where
   pub longer : LongerLog
+  pub catalogs : CatalogsAreTables
   pub stands : StandsLonger
   pub others : OthersAsLogGrows
   pub edit : EditStands
@@ -54,25 +60,28 @@ module _ (laws : Below) (limit : ℕ) (small : limit < 2 ^ 32) (w : World) (s : 
   -- ---- an edit
 
   edited : (r count : ℕ) (asked : Edit) (before : Member) (next : View) (left : Contents) → IsMember w r before
-      → edit w.tables (step.table_of_edit asked) (step.asked_of_edit asked) before.view ≡ Ok next
-      → ShowsAt w.tables left (with_pending before.position count) next
-      → IsSound limit (with_member w r (record { position = with_pending before.position count; view = next }))
+      → edit before.tables (step.table_of_edit asked) (step.asked_of_edit asked) before.view ≡ Ok next
+      → ShowsAt before.tables left (with_pending before.position count) next
+      → IsSound limit (with_member w r (record before { position = with_pending before.position count; view = next }))
   edited r count asked before next left was made shows =
       let p = s.placed r before was in
-      quiet_sound laws.longer laws.stands laws.others limit w r before (record { position = with_pending before.position count; view = next }) s was (omega arith) (record {
+      quiet_sound laws.longer laws.stands laws.others limit w r before (record before { position = with_pending before.position count; view = next }) s was (omega arith) (record {
         id = p.id;
+        small = p.small;
         fits = record { id = p.fits.id; version = p.fits.version };
+        tables = p.tables;
+        are = p.are;
         contents = left;
         shown = shows;
-        stands = laws.edit w.tables w.log (step.table_of_edit asked) (step.asked_of_edit asked) p.contents left before.position count before.view next s.tables p.shown made shows p.stands;
+        stands = laws.edit before.tables w.log (step.table_of_edit asked) (step.asked_of_edit asked) p.contents left before.position count before.view next p.are p.shown made shows p.stands;
         sent = λ changes flight. p.sent changes flight;
       })
 
   -- ---- a push is made
 
-  module _ (r : ℕ) (before : Member) (left : Contents) (changes : List TableChanges) (was : IsMember w r before) (made : IsPushMade w.tables before.position before.view left changes) where
+  module _ (r : ℕ) (before : Member) (left : Contents) (changes : List TableChanges) (was : IsMember w r before) (made : IsPushMade before.tables before.position before.view left changes) where
     abbrev after : Member
-    after = record { position = pushed before.position changes; view = grounded before.view }
+    after = record before { position = pushed before.position changes; view = grounded before.view }
 
     abbrev head : PushHead
     head = record { origin = before.position.id; number = before.position.number + 1; base = before.position.version }
@@ -98,7 +107,10 @@ module _ (laws : Below) (limit : ℕ) (small : limit < 2 ^ 32) (w : World) (s : 
     after_placed : IsPlaced next r after
     after_placed = record {
       id = p.id;
+      small = p.small;
       fits = record { id = p.fits.id; version = p.fits.version };
+      tables = p.tables;
+      are = p.are;
       contents = left;
       shown = made.shows;
       stands = after_stands;
@@ -113,19 +125,19 @@ module _ (laws : Below) (limit : ℕ) (small : limit < 2 ^ 32) (w : World) (s : 
       size_fits = omega (arith, made.shows.under_way.size, laws.most);
     }
 
-    defined : IsDefinedOn w.tables changes (tables_at w.log before.position.version)
+    defined : IsDefinedOn before.tables changes (tables_at w.log before.position.version)
     defined =
-        let applied = laws.flight w.tables left w.log after.position changes after.view s.tables made.shows refl after_stands in
+        let applied = laws.flight before.tables left w.log after.position changes after.view p.are made.shows refl after_stands in
         (applied.0, λ n k. some_is (applied.1 n k))
 
     true_message : IsTrue next message
     true_message = record {
       changes = changes;
       spelled = refl;
-      of_tables = (made.shows.under_way.normal, made.shows.under_way.fits);
+      of_tables = subst (λ (ts : List TableDef). AreChangesOf ts changes) p.tables (made.shows.under_way.normal, made.shows.under_way.fits);
       size = made.shows.under_way.size;
       within = p.stands.within;
-      defined = defined;
+      defined = subst (λ (ts : List TableDef). IsDefinedOn ts changes (tables_at w.log before.position.version)) p.tables defined;
       counted = λ m at.
           elim (moved_at laws.longer laws.stands laws.others limit w r before after (message ∷ []) s was counts before.position.id m at) [
             | inl q ↦ subst (λ (x : Member). before.position.number + 1 ≤ x.position.number) (sym q.1) (omega arith)
@@ -159,35 +171,51 @@ module _ (laws : Below) (limit : ℕ) (small : limit < 2 ^ 32) (w : World) (s : 
 
   -- ---- the hub serves
 
-  served : (k r : ℕ) (asked : Asked) (answer : Answer) (log : List LogEntry) → IsMessage w k (Asks r asked) → FitsAnswer answer → service.IsServed limit w asked (answer_spelling answer) log
-      → IsSound limit (with_message (with_log w log) (Tells r answer))
-  served k r asked answer log there fits v =
-      let new : World = with_message (with_log w log) (Tells r answer) in
-      let goes : Goes w new (Tells r answer ∷ []) = record {
+  -- what a replica asked was offered so
+  by_replica : (k r : ℕ) (asked : Asked) (head : PushHead) (body : Body) → IsMessage w k (Asks r asked) → IsTrueAsked w asked → service.IsOfferedBy asked head body → WasOffered w head body
+  by_replica k r asked head (Changes changes) there t same = subst (WasAsked w) same (k, r, there)
+  by_replica k r asked head (Widen table width) there t (origin, same) = absurd (subst (IsTrueAsked w) same t)
+
+  -- and what was asked for none
+  by_nobody : (k : ℕ) (asked : Asked) (head : PushHead) (body : Body) → IsMessage w k (Orders asked) → IsTrueOrder asked → service.IsOfferedBy asked head body → WasOffered w head body
+  by_nobody k asked head (Changes changes) there t same = absurd (subst IsTrueOrder same t)
+  by_nobody k asked head (Widen table width) there t (origin, same) = (origin, subst (WasOrdered w) same (k, there))
+
+  served : (asked : Asked) (answer : Answer) (log : List LogEntry) (message : Sent) → (IsTrueAnswer (with_log w log) answer → IsTrue (with_message (with_log w log) message) message)
+      → FitsSent message → ((j : ℕ) (head : PushHead) (changeset : List ℕ) → message ≡ Asks j (AsksPush head changeset) → ⊥)
+      → ((head : PushHead) (body : Body) → service.IsOfferedBy asked head body → WasOffered w head body)
+      → FitsAnswer answer → service.IsServed limit w asked (answer_spelling answer) log
+      → IsSound limit (with_message (with_log w log) message)
+  served asked answer log message true fits_message quiet offers fits v =
+      let new : World = with_message (with_log w log) message in
+      let goes : Goes w new (message ∷ []) = record {
         more = v.more;
         tables_same = refl;
         log_is = v.log_is;
         messages_are = refl;
         counts = λ j m at. (m, at, omega arith);
       } in
-      next_sound laws.longer laws.stands laws.others w new (Tells r answer ∷ []) goes limit s v.is_log v.entries v.short
-      (λ j m at. placed_on laws.longer laws.stands laws.others w new (Tells r answer ∷ []) goes j m (s.placed j m at))
-      (λ m j at. let is = (in_one m (Tells r answer) j at).1 in (rw is fits, rw is (service.served_true laws.service limit small w s asked answer log fits v)))
-      (no_push laws.longer laws.stands laws.others new (Tells r answer) (λ j head changeset e. cc))
+      next_sound laws.longer laws.stands laws.others w new (message ∷ []) goes limit s v.is_log v.entries v.short
+      (λ j m at. placed_on laws.longer laws.stands laws.others w new (message ∷ []) goes j m (s.placed j m at))
+      (λ m j at. let is = (in_one m message j at).1 in (rw is fits_message, rw is (true (service.served_true laws.service limit small w s asked answer log fits v))))
+      (no_push laws.longer laws.stands laws.others new message quiet)
       (λ at entry is. elim (v.new_at at entry is) [
-        | inl old ↦ asked_on laws.longer laws.stands laws.others w new (Tells r answer ∷ []) goes (push_of at entry) (s.pushed at entry old)
-        | inr same ↦ asked_on laws.longer laws.stands laws.others w new (Tells r answer ∷ []) goes (push_of at entry) (subst (WasAsked w) same (k, r, there))
+        | inl old ↦ offered_on laws.longer laws.stands laws.others w new (message ∷ []) goes at entry (s.offered at entry old)
+        | inr same ↦ offered_on laws.longer laws.stands laws.others w new (message ∷ []) goes at entry (offers (record { origin = entry.origin; number = entry.number; base = at }) entry.body same)
       ])
 
   -- ---- a replica hears an answer
 
-  heard : (k r : ℕ) (wishes : List Wish) (answer : Answer) (before after : Member) (result : Result Told AnswerFault) → IsMessage w k (Tells r answer) → IsMember w r before → Hears w.tables before answer wishes result after
+  heard : (k r : ℕ) (wishes : List Wish) (answer : Answer) (before after : Member) (result : Result Told AnswerFault) → IsMessage w k (Tells r answer) → IsMember w r before → Hears before answer wishes result after
       → IsSound limit (with_member w r after) × IsGood (step.heard result)
   heard k r wishes answer before after result there was hears =
       let p = s.placed r before was in
       let on = answers.hears_on laws.answers limit small w s r before p answer wishes result after (s.true k (Tells r answer) there) hears in (
         quiet_sound laws.longer laws.stands laws.others limit w r before after s was (omega (arith, on.0.number)) (record {
           id = on.0.id ∙ p.id;
+          small = p.small;
+          tables = on.0.tables_are;
+          are = subst AreTables (sym on.0.tables_are) (laws.catalogs w.tables w.log after.position.version s.tables s.log);
           fits = record { id = rw on.0.id p.fits.id; version = omega (arith, on.0.stands.within, s.short, small) };
           contents = hears.left;
           shown = hears.shows;
@@ -222,7 +250,23 @@ module _ (laws : Below) (limit : ℕ) (small : limit < 2 ^ 32) (w : World) (s : 
   step_sound (step.restarts was) = (s, λ n e. cc)
   step_sound (step.restarts_not was why) = (s, λ n e. cc)
   step_sound (step.serves {k = k} {r = r} {asked = asked} {log = log} answer there fits serves) =
-      (served k r asked answer log there fits (service.served laws.service limit small w s asked (answer_spelling answer) log (s.spelled k (Asks r asked) there) (s.true k (Asks r asked) there) serves), λ n e. cc)
+      let t = s.true k (Asks r asked) there in (
+        served asked answer log (Tells r answer) (λ true. true) fits (λ j head changeset e. cc) (λ head body. by_replica k r asked head body there t) fits
+            (service.served laws.service limit small w s asked (answer_spelling answer) log (s.spelled k (Asks r asked) there) (inl t) serves),
+        λ n e. cc,
+      )
+  step_sound (step.obeys {k = k} {asked = asked} {log = log} answer there fits serves) =
+      let t = s.true k (Orders asked) there in (
+        served asked answer log (Replies answer) (λ true. true) fits (λ j head changeset e. cc) (λ head body. by_nobody k asked head body there t) fits
+            (service.served laws.service limit small w s asked (answer_spelling answer) log (s.spelled k (Orders asked) there) (inr t) serves),
+        λ n e. cc,
+      )
+  step_sound (step.ignores there) = (s, λ n e. cc)
+  step_sound (step.orders {wider = wider} fits) = (
+    said_sound laws.longer laws.stands laws.others limit w (Orders (step.asked_of_wider wider)) s fits tt
+        (no_push laws.longer laws.stands laws.others (with_message w (Orders (step.asked_of_wider wider))) (Orders (step.asked_of_wider wider)) (λ j head changeset e. cc)),
+    λ n e. cc,
+  )
   step_sound (step.hears {k = k} {r = r} {wishes = wishes} {answer = answer} {before = before} {after = after} {result = result} there was hears) = heard k r wishes answer before after result there was hears
   step_sound (step.no_replica to none) = (s, λ n e. cc)
   step_sound (step.no_message none) = (s, λ n e. cc)
@@ -233,6 +277,9 @@ steps_are_sound laws limit old new event outcome small s step = step_sound laws 
 
 -- what the hub answers to what was asked spells an answer
 pub answers_fit : service.Below → AnswersFit
-answers_fit laws limit w k r asked bytes log small s there serves =
-    let v = service.served laws limit small w s asked bytes log (s.spelled k (Asks r asked) there) (s.true k (Asks r asked) there) serves in
+answers_fit laws limit w k asked bytes log small s there serves =
+    let v : service.IsServed limit w asked bytes log = elim there [
+      | inl (r, mine) ↦ service.served laws limit small w s asked bytes log (s.spelled k (Asks r asked) mine) (inl (s.true k (Asks r asked) mine)) serves
+      | inr none ↦ service.served laws limit small w s asked bytes log (s.spelled k (Orders asked) none) (inr (s.true k (Orders asked) none)) serves
+    ] in
     (v.answer, v.fits, v.spelled)

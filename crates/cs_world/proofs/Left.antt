@@ -21,7 +21,9 @@ use Rattle.cs_replica.specs.declared.told.Told.TheVariants as what
 use Rattle.cs_opening.specs.moving.Laws.{OneStoreOpening}
 use Rattle.cs_opening.specs.moving.Moved.{IsStoreOpened}
 use Rattle.cs_store.specs.declared.log.entry.LogEntry.{LogEntry}
+use Rattle.cs_hub.specs.log_store.Laws.{OneLog}
 use Rattle.cs_hub.specs.log_store.Shows.{ShowsLog}
+use Rattle.cs_hub.specs.log_store.Versions.{ShowsBy, Versions}
 use Rattle.cs_opening.specs.Laws.{NothingShowsNone}
 use Rattle.cs_opening.specs.Opens.{IsReplicaAt}
 use Rattle.cs_pending.specs.View.{View}
@@ -44,14 +46,14 @@ use Rattle.cs_world.specs.Laws.{AnswersFit, SoundHasHeadline, StepsAreSound}
 use Rattle.cs_world.specs.Sound.{IsSound}
 use Rattle.cs_world.specs.Steps as step
 use Rattle.cs_world.specs.Steps.{Step}
-use Rattle.cs_world.specs.World.{Asks, FitsSent, IsMember, IsMessage, Member, Sent, Tells, World, with_member}
+use Rattle.cs_world.specs.World.{Asks, FitsSent, IsMember, IsMessage, Member, Orders, Replies, Sent, Tells, World, with_member}
 use Rattle.cs_world.specs.declared.event.Event.{Event}
 use Rattle.cs_world.specs.declared.event.Event.TheVariants.{Deliver, OnEdit}
 use Rattle.cs_world.specs.declared.outcome.Outcome.{Outcome}
 use Rattle.cs_world.specs.declared.outcome.Outcome.TheVariants as told
 use Rattle.cs_world.specs.Holding.{AreHonest, Holding, Says, StandsAt}
 use Rattle.cs_world.specs.Left as found
-use Rattle.cs_world.specs.Left.{AtHub, AtReplica, Kept, Leaves, LeavesHub, LeavesReplica, Place, ShowsKept, StopsHaveHeadline, Survives, WouldLeave, WouldServe, turned}
+use Rattle.cs_world.specs.Left.{AtHub, AtReplica, IsServedBy, Kept, Leaves, LeavesHub, LeavesReplica, Place, ShowsKept, StopsHaveHeadline, Survives, WouldLeave, WouldServe, turned}
 use Rattle.cs_world.specs.Moves.{HasGoneOn, KeepsLeft}
 use Rattle.cs_world.specs.StopsLaws.{FoundIsStep, FoundIsStepOfHub, OpensAsLeft, StopOfHub, StopOfReplica}
 use Rattle.cs_world.specs.declared.letter.Letter.{Letter}
@@ -65,42 +67,42 @@ quiet world r after = ap (λ (ss : List Sent). record world { members = slice_se
 pub found_is_step : FoundIsStep
 found_is_step limit r world before old left event was shown (found.edited {asked = asked} edited) =
     let e = edited before.view shown in
-    let after : Member = record { position = with_pending before.position (len left.pending); view = e.0 } in
+    let after : Member = record before { position = with_pending before.position (len left.pending); view = e.0 } in
     (after, [], told.Done, subst (λ (n : World). Step limit world (OnEdit r asked) told.Done n) (quiet world r after) (step.edits {left = left} (len left.pending) was e.1 e.2), e.2)
 found_is_step limit r world before old left event was shown (found.pushed made) =
     let m = made before.view shown in
-    let after : Member = record { position = pushed before.position m.0; view = grounded before.view } in
+    let after : Member = record before { position = pushed before.position m.0; view = grounded before.view } in
     (after, Asks r (request_of (pushed before.position m.0) m.0) ∷ [], told.Sent (length world.messages), step.pushes {left = left} was m.1, m.1.shows)
 found_is_step limit r world before old left event was shown (found.confirmed {k = k} {origin = origin} {number = number} {version = version} {wishes = wishes} there accepted made) =
     let shows = (made before.view shown).0 in
-    let after : Member = record { position = confirmed before.position; view = before.view } in
-    let hears : Hears world.tables before (Short (Accepted origin number version)) wishes (Ok (what.Confirmed version)) after = record {
+    let after : Member = record before { position = confirmed before.position; view = before.view } in
+    let hears : Hears before (Short (Accepted origin number version)) wishes (Ok (what.Confirmed version)) after = record {
       left = left;
       unused = wishes;
-      answers = (inl (accepted, refl, refl), (shows, refl));
+      answers = (refl, inl (accepted, refl, refl), (shows, refl));
       shows = shows;
     } in
     (after, [], told.Heard (what.Confirmed version), subst (λ (n : World). Step limit world (Deliver k wishes) (told.Heard (what.Confirmed version)) n) (quiet world r after) (step.hears there was hears), shows)
 found_is_step limit r world before old left event was shown (found.pulled {k = k} {first = first} {entries = entries} {wishes = wishes} there one) =
     let o = one before.view shown in
-    let after : Member = record { position = o.0; view = o.1 } in
-    let hears : Hears world.tables before (Entries first entries) wishes (Err (fault.Device 1)) after = record {
+    let after : Member = record { tables = o.0; position = o.1; view = o.2 } in
+    let hears : Hears before (Entries first entries) wishes (Err (fault.Device 1)) after = record {
       left = left;
-      unused = o.2;
-      answers = (Err (fault.Device 1), refl, (o.1, o.2, o.3, o.4, tt));
-      shows = o.4;
+      unused = o.3;
+      answers = (Err (fault.Device 1), refl, (o.2, o.3, o.4, o.5, tt));
+      shows = o.5;
     } in
-    (after, [], told.NotHeard (fault.Device 1), subst (λ (n : World). Step limit world (Deliver k wishes) (told.NotHeard (fault.Device 1)) n) (quiet world r after) (step.hears there was hears), o.4)
+    (after, [], told.NotHeard (fault.Device 1), subst (λ (n : World). Step limit world (Deliver k wishes) (told.NotHeard (fault.Device 1)) n) (quiet world r after) (step.hears there was hears), o.5)
 found_is_step limit r world before old left event was shown (found.merged {k = k} {origin = origin} {first = first} {next = next} {changeset = changeset} {wishes = wishes} there mine above took) =
     let m = took.3 before.view shown in
     let at = mine.1 in
     let count : ℕ = next - before.position.version in
     let sum : before.position.version + count ≡ next = omega (arith, at, above) in
-    let after : Member = record { position = brought before.position next (len left.pending); view = m.0 } in
-    let hears : Hears world.tables before (Merged origin first next changeset) wishes (Ok (what.Taken count)) after = record {
+    let after : Member = record before { position = brought before.position next (len left.pending); view = m.0 } in
+    let hears : Hears before (Merged origin first next changeset) wishes (Ok (what.Taken count)) after = record {
       left = left;
       unused = took.1;
-      answers = inr (inr (inr (mine, above, Ok (pulled.Taken count), refl, (sum, took.0, m.0, took.2, refl, m.1, m.2))));
+      answers = (refl, inr (inr (inr (mine, above, Ok (pulled.Taken count), refl, (sum, took.0, m.0, took.2, refl, m.1, m.2)))));
       shows = m.1;
     } in
     (after, [], told.Heard (what.Taken count), subst (λ (n : World). Step limit world (Deliver k wishes) (told.Heard (what.Taken count)) n) (quiet world r after) (step.hears there was hears), m.1)
@@ -108,10 +110,13 @@ found_is_step limit r world before old left event was shown (found.merged {k = k
 pub found_is_step_of_hub : AnswersFit → FoundIsStepOfHub
 found_is_step_of_hub law limit world wishes old left would small sound shown =
     let served = would.served world.log shown in
-    let fits = law limit world would.message would.who would.asked served.0 served.1 small sound would.sent served.2 in
+    let fits = law limit world would.message would.asked served.0 served.1 small sound would.sent served.2 in
     let serves : ServesIf (Unit {0}) limit (hub_of world.tables world.log) (request_spelling would.asked) (answer_spelling fits.0) (hub_of world.tables served.1) =
     subst (λ (bytes : List ℕ). ServesIf (Unit {0}) limit (hub_of world.tables world.log) (request_spelling would.asked) bytes (hub_of world.tables served.1)) fits.2 served.2 in
-    (served.1, Tells would.who fits.0 ∷ [], told.Sent (length world.messages), step.serves fits.0 would.sent fits.1 serves, served.3)
+    elim would.sent [
+      | inl (who, mine) ↦ (served.1, Tells who fits.0 ∷ [], told.Sent (length world.messages), step.serves fits.0 mine fits.1 serves, served.3)
+      | inr none ↦ (served.1, Replies fits.0 ∷ [], told.Sent (length world.messages), step.obeys fits.0 none fits.1 serves, served.3)
+    ]
 
 -- ---- behind a stop
 
@@ -156,7 +161,7 @@ same_survives headline limit world place left is kept same shows =
 
 pub stop_of_replica : StepsAreSound → SoundHasHeadline → StopOfReplica
 stop_of_replica sound headline limit r world before old left small is was shown (inl same) =
-    same_survives headline limit world (AtReplica r) left is before (same_replica world r before was) (subst (λ (c : Contents). ShowsAt world.tables c before.position before.view) (sym same) shown)
+    same_survives headline limit world (AtReplica r) left is before (same_replica world r before was) (subst (λ (c : Contents). ShowsAt before.tables c before.position before.view) (sym same) shown)
 stop_of_replica sound headline limit r world before old left small is was shown (inr (event, would)) =
     let f = found_is_step limit r world before old left event was shown would in
     step_survives sound headline limit world (AtReplica r) left small is f.0 f.1 event f.2 f.3 f.4
@@ -171,38 +176,40 @@ stop_of_hub fit sound headline limit world old left small is shown (inr would) =
 -- ---- what would have been left goes on
 
 -- what a failed commit would have left it would still have left when messages were added
-would_leave_on : (w w2 : World) (r : ℕ) (position : Position) (old left : Contents) (event : Event) → HasGoneOn w w2 → WouldLeave w r position old left event → WouldLeave w2 r position old left event
-would_leave_on w w2 r position old left event on (found.edited edited) = found.edited (rw on.tables edited)
-would_leave_on w w2 r position old left event on (found.pushed made) = found.pushed (rw on.tables made)
-would_leave_on w w2 r position old left event on (found.confirmed {k = k} {origin = origin} {number = number} {version = version} there accepted made) =
-    found.confirmed (on.messages k (Tells r (Short (Accepted origin number version))) there) accepted (rw on.tables made)
-would_leave_on w w2 r position old left event on (found.pulled {k = k} {first = first} {entries = entries} there one) =
-    found.pulled (on.messages k (Tells r (Entries first entries)) there) (rw on.tables one)
-would_leave_on w w2 r position old left event on (found.merged {k = k} {origin = origin} {first = first} {next = next} {changeset = changeset} there mine above took) =
-    found.merged (on.messages k (Tells r (Merged origin first next changeset)) there) mine above (rw on.tables took)
+would_leave_on : (w w2 : World) (r : ℕ) (tables : List TableDef) (position : Position) (old left : Contents) (event : Event) → HasGoneOn w w2 → WouldLeave w r tables position old left event → WouldLeave w2 r tables position old left event
+would_leave_on w w2 r tables position old left event on (found.edited edited) = found.edited edited
+would_leave_on w w2 r tables position old left event on (found.pushed made) = found.pushed made
+would_leave_on w w2 r tables position old left event on (found.confirmed {k = k} {origin = origin} {number = number} {version = version} there accepted made) =
+    found.confirmed (on.messages k (Tells r (Short (Accepted origin number version))) there) accepted made
+would_leave_on w w2 r tables position old left event on (found.pulled {k = k} {first = first} {entries = entries} there one) =
+    found.pulled (on.messages k (Tells r (Entries first entries)) there) one
+would_leave_on w w2 r tables position old left event on (found.merged {k = k} {origin = origin} {first = first} {next = next} {changeset = changeset} there mine above took) =
+    found.merged (on.messages k (Tells r (Merged origin first next changeset)) there) mine above took
 
 would_serve_on : (w w2 : World) (limit : ℕ) (old left : Contents) → HasGoneOn w w2 → WouldServe limit w old left → WouldServe limit w2 old left
 would_serve_on w w2 limit old left on would = record {
   message = would.message;
-  who = would.who;
   asked = would.asked;
-  sent = on.messages would.message (Asks would.who would.asked) would.sent;
+  sent = elim would.sent [
+    | inl (who, mine) ↦ inl (who, on.messages would.message (Asks who would.asked) mine)
+    | inr none ↦ inr (on.messages would.message (Orders would.asked) none)
+  ];
   served = rw on.tables would.served;
 }
 
 -- what the commit of an answer would have left it is to be found by the message that told it
-pub next_of_answer : (world : World) (k r : ℕ) (answer : Answer) (position : Position) (now left : Contents) → IsMessage world k (Tells r answer)
-    → IsAnsweredNext IsWished world.tables answer position now left → (event : Event) × WouldLeave world r position now left event
-next_of_answer world k r (Short (Accepted origin number version)) position now left there next = (Deliver k [], found.confirmed there next.0 next.1)
-next_of_answer world k r (Short (Stale newest)) position now left there next = absurd next
-next_of_answer world k r (Short (Refused code)) position now left there next = absurd next
-next_of_answer world k r (Entries first entries) position now left there (p, one) = (Deliver k p, found.pulled there one)
-next_of_answer world k r (Merged origin first next changeset) position now left there (mine, above, (p, took)) = (Deliver k p, found.merged there mine above took)
+pub next_of_answer : (world : World) (k r : ℕ) (tables : List TableDef) (answer : Answer) (position : Position) (now left : Contents) → IsMessage world k (Tells r answer)
+    → IsAnsweredNext IsWished tables answer position now left → (event : Event) × WouldLeave world r tables position now left event
+next_of_answer world k r tables (Short (Accepted origin number version)) position now left there next = (Deliver k [], found.confirmed there next.0 next.1)
+next_of_answer world k r tables (Short (Stale newest)) position now left there next = absurd next
+next_of_answer world k r tables (Short (Refused code)) position now left there next = absurd next
+next_of_answer world k r tables (Entries first entries) position now left there (p, one) = (Deliver k p, found.pulled there one)
+next_of_answer world k r tables (Merged origin first next changeset) position now left there (mine, above, (p, took)) = (Deliver k p, found.merged there mine above took)
 
 module _ {S : Type 0} (g : Ghosts S) (limit : ℕ) where
-  replica_on : (world next : World) (r : ℕ) (position : Position) (store : S) → HasGoneOn world next → LeavesReplica g world r position store → LeavesReplica g next r position store
-  replica_on world next r position store on leaves left may =
-      elim (leaves left may) [ inl is ↦ inl is | inr (event, would) ↦ inr (event, would_leave_on world next r position (g.contents store) left event on would) ]
+  replica_on : (world next : World) (r : ℕ) (tables : List TableDef) (position : Position) (store : S) → HasGoneOn world next → LeavesReplica g world r tables position store → LeavesReplica g next r tables position store
+  replica_on world next r tables position store on leaves left may =
+      elim (leaves left may) [ inl is ↦ inl is | inr (event, would) ↦ inr (event, would_leave_on world next r tables position (g.contents store) left event on would) ]
 
   hub_on : (world next : World) (store : S) → HasGoneOn world next → LeavesHub g limit world store → LeavesHub g limit next store
   hub_on world next store on leaves left may =
@@ -216,36 +223,36 @@ module _ {S : Type 0} (g : Ghosts S) (limit : ℕ) where
     pub left_as_it_was : (ls : List Letter) → KeepsLeft g limit (held h replicas letters) (held h replicas ls)
     left_as_it_was ls all world stands next on leaves = record {
       hub = hub_on world next h.store on leaves.hub;
-      replicas = λ r one at. replica_on world next r one.position one.store on (leaves.replicas r one at);
+      replicas = λ r one at. replica_on world next r one.catalog one.position one.store on (leaves.replicas r one at);
     }
 
     -- a replica's was
-    pub left_of_replica : (r : ℕ) (old new : replica.Holding S) → slice_get replicas r ≡ Some old → (failed : List TableDef → Position → Contents → Contents → Type 0) → CallLeaves g (failed old.catalog) old new
-        → ((world : World) → StandsAt g limit (held h replicas letters) world → (position : Position) (now left : Contents) → failed world.tables position now left → (event : Event) × WouldLeave world r position now left event)
+    pub left_of_replica : (r : ℕ) (old new : replica.Holding S) → slice_get replicas r ≡ Some old → (failed : Position → Contents → Contents → Type 0) → CallLeaves g failed old new
+        → ((world : World) → StandsAt g limit (held h replicas letters) world → (position : Position) (now left : Contents) → failed position now left → (event : Event) × WouldLeave world r new.catalog position now left event)
         → (ls : List Letter) → KeepsLeft g limit (held h replicas letters) (held h (slice_set replicas r new) ls)
     left_of_replica r old new was failed call found_as ls all world stands next on leaves = record {
       hub = hub_on world next h.store on leaves.hub;
       replicas = λ s one at.
           elim (set_at replicas r new s one at) [
-            | inl (is, same) ↦ subst (λ (i : ℕ). LeavesReplica g next i one.position one.store) (sym is) (subst (λ (x : replica.Holding S). LeavesReplica g next r x.position x.store) (sym same) here)
-            | inr (other, before) ↦ replica_on world next s one.position one.store on (leaves.replicas s one before)
+            | inl (is, same) ↦ subst (λ (i : ℕ). LeavesReplica g next i one.catalog one.position one.store) (sym is) (subst (λ (x : replica.Holding S). LeavesReplica g next r x.catalog x.position x.store) (sym same) here)
+            | inr (other, before) ↦ replica_on world next s one.catalog one.position one.store on (leaves.replicas s one before)
           ];
     }
       where
-        here : LeavesReplica g next r new.position new.store
+        here : LeavesReplica g next r new.catalog new.position new.store
         here left may =
             let m = stands.0.members r old was in
             let placed = stands.1.placed r m.0 m.1 in
-            elim (call (all.replicas r new (set_there replicas r new old was)) (subst AreTables (sym m.2.catalog) stands.1.tables) (subst FitsPosition (sym m.2.position) placed.fits) m.0.view m.2.shows left may) [
+            elim (call (all.replicas r new (set_there replicas r new old was)) (subst AreTables (sym m.2.catalog) placed.are) (subst FitsPosition (sym m.2.position) placed.fits) m.0.view m.2.shows left may) [
               | inl now ↦ inl now
-              | inr (inl (before, same, stays)) ↦
+              | inr (inl (before, same, wide, stays)) ↦
                   elim (leaves.replicas r old was left before) [
                     | inl is ↦ inl (is ∙ sym same)
-                    | inr (event, would) ↦ inr (event, would_leave_on world next r new.position (g.contents new.store) left event on (rw (stays, same) would))
+                    | inr (event, would) ↦ inr (event, would_leave_on world next r new.catalog new.position (g.contents new.store) left event on (rw (wide, stays, same) would))
                   ]
               | inr (inr made) ↦
-                  let w = found_as world stands new.position (g.contents new.store) left (subst (λ (t : List TableDef). failed t new.position (g.contents new.store) left) m.2.catalog made) in
-                  inr (w.0, would_leave_on world next r new.position (g.contents new.store) left w.0 on w.1)
+                  let w = found_as world stands new.position (g.contents new.store) left made in
+                  inr (w.0, would_leave_on world next r new.catalog new.position (g.contents new.store) left w.0 on w.1)
             ]
 
     -- the hub's was
@@ -263,7 +270,7 @@ module _ {S : Type 0} (g : Ghosts S) (limit : ℕ) where
                 ]
             | inr (inr would) ↦ inr (would_serve_on world next limit (g.contents new.store) left on would)
           ];
-      replicas = λ r one at. replica_on world next r one.position one.store on (leaves.replicas r one at);
+      replicas = λ r one at. replica_on world next r one.catalog one.position one.store on (leaves.replicas r one at);
     }
 
 -- ---- a request
@@ -273,32 +280,36 @@ abbrev pub HubLeaves : {S : Type 0} → Ghosts S → ℕ → List ℕ → hub.Ho
 HubLeaves g limit request old new =
     g.honest new.store → (log : List LogEntry) → hub.Shows g.contents old log → (left : Contents) → g.may_leave new.store left
     → (left ≡ g.contents new.store)
-    ⊎ ((g.may_leave old.store left × (g.contents new.store ≡ g.contents old.store)) ⊎ IsServedIn limit old.catalog request (g.contents new.store) left)
+    ⊎ ((g.may_leave old.store left × (g.contents new.store ≡ g.contents old.store)) ⊎ IsServedBy limit old.catalog request (g.contents new.store) left)
 
 -- a log with an entry more is another
-another : (opening : List TableDef) (entry : LogEntry) (old new : Contents) (log : List LogEntry) → ShowsLog opening old log → IsAppendedIn opening entry old new → new ≡ old → ⊥
-another opening entry old new log shown appended same =
-    let before = shown.entries.counted in
+another : (versions : Versions) (entry : LogEntry) (old new : Contents) (log : List LogEntry) → ShowsBy versions old log → IsAppendedIn versions entry old new → new ≡ old → ⊥
+another versions entry old new log shown appended same =
+    let before = shown.0.entries.counted in
     let after = (appended log shown).1.entries.counted in
     let n = length-append log (entry ∷ []) in
     let both : log_count new ≡ log_count old = ap log_count same in
     omega (arith, before, after, n, both)
 
-pub hub_leaves : {S E : Type 0} (g : Ghosts S) (limit : ℕ) (old new : hub.Holding S) (request : List ℕ) (result : Result (Vec ℕ Global) E)
-    → ServesStore g old.catalog (hub.ShowsSome g.contents old) (IsServedIn limit old.catalog request (g.contents old.store)) old.store new.store result
+pub hub_leaves : {S E : Type 0} (g : Ghosts S) (limit : ℕ) (old new : hub.Holding S) (request : List ℕ) (result : Result (Vec ℕ Global) E) → OneLog → AreTables old.catalog
+    → ServesStore g (hub.versions_of old) (hub.ShowsSome g.contents old) (IsServedIn limit (hub.versions_of old) request (g.contents old.store)) old.store new.store result
     → HubLeaves g limit request old new
-hub_leaves g limit old new request result serves h log shown left may = of_what (serves.grown h)
+hub_leaves g limit old new request result one are serves h log shown left may = of_what (serves.grown h)
   where
-    of_what : IsSameOrGrown old.catalog (g.contents old.store) (g.contents new.store)
+    -- whichever log it shows is the one
+    by_any : IsServedIn limit (hub.versions_of old) request (g.contents old.store) left → IsServedBy limit old.catalog request (g.contents old.store) left
+    by_any served other shows = served other (subst (ShowsBy (hub.versions_of old) (g.contents old.store)) (one old.catalog (g.contents old.store) log other are shown.0 shows) shown)
+
+    of_what : IsSameOrGrown (hub.versions_of old) (g.contents old.store) (g.contents new.store)
         → (left ≡ g.contents new.store)
-        ⊎ ((g.may_leave old.store left × (g.contents new.store ≡ g.contents old.store)) ⊎ IsServedIn limit old.catalog request (g.contents new.store) left)
+        ⊎ ((g.may_leave old.store left × (g.contents new.store ≡ g.contents old.store)) ⊎ IsServedBy limit old.catalog request (g.contents new.store) left)
     of_what (inl same) =
         elim (serves.crash h left may) [
           | inl before ↦ inr (inl (before, same))
-          | inr (grown, served) ↦ inr (inr (subst (λ (c : Contents). IsServedIn limit old.catalog request c left) (sym same) (served (log, shown.0, shown.1))))
+          | inr (grown, served) ↦ inr (inr (subst (λ (c : Contents). IsServedBy limit old.catalog request c left) (sym same) (by_any (served (log, shown)))))
         ]
     of_what (inr (entry, appended)) =
-        elim (serves.durable h (λ not. another old.catalog entry (g.contents old.store) (g.contents new.store) log shown.0 appended (serves.err h not)) left may) [
+        elim (serves.durable h (λ not. another (hub.versions_of old) entry (g.contents old.store) (g.contents new.store) log shown appended (serves.err h not)) left may) [
           | inl now ↦ inl now
           | inr before ↦ inr (inl before)
         ]
@@ -310,9 +321,34 @@ says_one : OneToldAnswer → (one : Letter) (message other : Sent) → Says one 
 says_one law (letter.Asks r request) (Asks q asked) (Asks p its) says also fits fit =
     ap (λ (x : ℕ). Asks x asked) (sym says.0 ∙ also.0) ∙ ap (λ (a : Asked). Asks p a) (sym says.1 ∙ also.1)
 says_one law (letter.Asks r request) (Asks q asked) (Tells p answer) says also fits fit = absurd also
+says_one law (letter.Asks r request) (Asks q asked) (Orders its) says also fits fit = absurd also
+says_one law (letter.Asks r request) (Asks q asked) (Replies answer) says also fits fit = absurd also
 says_one law (letter.Asks r request) (Tells q answer) other says also fits fit = absurd says
+says_one law (letter.Asks r request) (Orders asked) other says also fits fit = absurd says
+says_one law (letter.Asks r request) (Replies answer) other says also fits fit = absurd says
 says_one law (letter.Tells r bytes) (Asks q asked) other says also fits fit = absurd says
+says_one law (letter.Tells r bytes) (Orders asked) other says also fits fit = absurd says
+says_one law (letter.Tells r bytes) (Replies answer) other says also fits fit = absurd says
 says_one law (letter.Tells r bytes) (Tells q answer) (Asks p asked) says also fits fit = absurd also
+says_one law (letter.Tells r bytes) (Tells q answer) (Orders asked) says also fits fit = absurd also
+says_one law (letter.Tells r bytes) (Tells q answer) (Replies its) says also fits fit = absurd also
+says_one law (letter.Orders request) (Asks q asked) other says also fits fit = absurd says
+says_one law (letter.Orders request) (Tells q answer) other says also fits fit = absurd says
+says_one law (letter.Orders request) (Replies answer) other says also fits fit = absurd says
+says_one law (letter.Orders request) (Orders asked) (Asks p its) says also fits fit = absurd also
+says_one law (letter.Orders request) (Orders asked) (Tells p answer) says also fits fit = absurd also
+says_one law (letter.Orders request) (Orders asked) (Replies answer) says also fits fit = absurd also
+says_one law (letter.Orders request) (Orders asked) (Orders its) says also fits fit = ap (λ (a : Asked). Orders a) (sym says ∙ also)
+says_one law (letter.Replies bytes) (Asks q asked) other says also fits fit = absurd says
+says_one law (letter.Replies bytes) (Tells q answer) other says also fits fit = absurd says
+says_one law (letter.Replies bytes) (Orders asked) other says also fits fit = absurd says
+says_one law (letter.Replies bytes) (Replies answer) (Asks p asked) says also fits fit = absurd also
+says_one law (letter.Replies bytes) (Replies answer) (Tells p its) says also fits fit = absurd also
+says_one law (letter.Replies bytes) (Replies answer) (Orders asked) says also fits fit = absurd also
+says_one law (letter.Replies bytes) (Replies answer) (Replies its) says also fits fit =
+    let both : Ok answer ≡ Ok its = law bytes.items (Ok answer) (Ok its) (fits, says) (fit, also) in
+    let same : answer ≡ its = cc in
+    ap (λ (a : Answer). Replies a) same
 says_one law (letter.Tells r bytes) (Tells q answer) (Tells p its) says also fits fit =
     let both : Ok answer ≡ Ok its = law bytes.items (Ok answer) (Ok its) (fits, says.1) (fit, also.1) in
     let same : answer ≡ its = cc in
@@ -340,11 +376,12 @@ module _ {S : Type 0} (g : Ghosts S) (limit : ℕ) (fit : AnswersFit) (steps : S
   stops_have_headline stood all world stands (AtReplica r) left (it, at, may) =
       let s = stood all in
       let m = stands.0.members r it at in
-      let shown : ShowsAt world.tables (g.contents it.store) m.0.position m.0.view =
+      let shown : ShowsAt m.0.tables (g.contents it.store) m.0.position m.0.view =
       subst (λ (t : List TableDef). ShowsAt t (g.contents it.store) m.0.position m.0.view) m.2.catalog (subst (λ (p : Position). ShowsAt it.catalog (g.contents it.store) p m.0.view) m.2.position m.2.shows) in
       stop_of_replica steps headline limit r world m.0 (g.contents it.store) left small stands.1 m.1 shown
-      (subst (λ (p : Position). (left ≡ g.contents it.store) ⊎ ((event : Event) × WouldLeave world r p (g.contents it.store) left event)) m.2.position
-      (replica_on g limit s.0 world r it.position it.store (alike s.0 world s.1 stands) (s.2.replicas r it at) left may))
+      (subst (λ (p : Position). (left ≡ g.contents it.store) ⊎ ((event : Event) × WouldLeave world r m.0.tables p (g.contents it.store) left event)) m.2.position
+      (subst (λ (ts : List TableDef). (left ≡ g.contents it.store) ⊎ ((event : Event) × WouldLeave world r ts it.position (g.contents it.store) left event)) m.2.catalog
+      (replica_on g limit s.0 world r it.catalog it.position it.store (alike s.0 world s.1 stands) (s.2.replicas r it at) left may)))
 
 -- ---- opened again
 

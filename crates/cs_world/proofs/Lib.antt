@@ -7,6 +7,7 @@ mod Keeps
 mod Holds
 mod Wished
 mod Came
+mod Catalogs
 mod Coming
 mod Exists
 mod Begun

@@ -6,7 +6,7 @@ use Rattle.cs_value.specs.Catalog.{AreTables}
 use Rattle.cs_value.specs.declared.catalog.TableDef.{TableDef}
 use Rattle.cs_value.specs.declared.edit.Edit.{Edit}
 use Rattle.cs_conflict.specs.declared.wish.Wish.{Wish}
-use Rattle.cs_hub.specs.Calls.{AnswersHub, IsServedIn, StaysHub}
+use Rattle.cs_hub.specs.Calls.{AnswersHub, StaysHub}
 use Rattle.cs_hub.specs.Holding as hub
 use Rattle.cs_hub.specs.Serves.{ServesIf}
 use Rattle.cs_hub.specs.judgement.Judged.{hub_of}
@@ -23,7 +23,9 @@ use Rattle.cs_replica.specs.Answered.{IsAnsweredNext}
 use Rattle.cs_exchange.specs.pushing.Pushes.{IsPushMadeIn, IsResendFault, pushed, request_of}
 use Rattle.cs_exchange.specs.declared.pushing.fault.PushFault.{PushFault}
 use Rattle.cs_replica.specs.Holding as replica
+use Rattle.cs_replica.specs.declared.told.Told.TheVariants.{Ignored}
 use Rattle.cs_replica.specs.declared.told.Told.{Told}
+use Rattle.cs_store.specs.declared.log.entry.LogEntry.{LogEntry}
 use Rattle.cs_store.specs.Calls.{MoreFailures}
 use Rattle.cs_store.specs.Contents.{Contents}
 use Rattle.cs_store.specs.declared.store.RowStore.{Ghosts}
@@ -36,7 +38,7 @@ use Rattle.cs_conflict.specs.wish_list.Wished.{IsWished}
 use Rattle.cs_world.specs.Laws.{AnswersFit}
 use Rattle.cs_world.specs.Steps as step
 use Rattle.cs_world.specs.Steps.{Hears, Step, addressee, heard}
-use Rattle.cs_world.specs.World.{Asks, IsMember, IsMessage, Member, Sent, Tells, World, with_log, with_member, with_message}
+use Rattle.cs_world.specs.World.{Asks, IsMember, IsMessage, IsRequest, Member, Orders, Replies, Sent, Tells, World, with_log, with_member, with_message}
 use Rattle.cs_world.specs.declared.event.Event.{Event}
 use Rattle.cs_world.specs.declared.event.Event.TheVariants.{Deliver, MakePush, OnEdit, Resend, Restart}
 use Rattle.cs_world.specs.declared.outcome.Outcome.{Outcome}
@@ -44,14 +46,25 @@ use Rattle.cs_world.specs.declared.outcome.Outcome.TheVariants as told
 use Rattle.cs_world.specs.Holding.{AreHonest, Holding, Says, ShowsMember, ShowsWorld, StandsAt}
 use Rattle.cs_world.specs.Fails.{SaysDevice}
 use Rattle.cs_world.specs.Left as found
-use Rattle.cs_world.specs.Left.{WouldLeave, WouldServe}
+use Rattle.cs_world.specs.Left.{IsServedBy, WouldLeave, WouldServe}
 use Rattle.cs_world.specs.Moves.{KeepsLeft, Moves}
 use Rattle.cs_world.specs.Turns.{IsEditedTo, IsPushedTo, IsReloadedTo, Turns, member_of}
 use Rattle.cs_world.specs.declared.letter.Letter.{Letter}
 use Rattle.cs_world.specs.declared.letter.Letter.TheVariants as letter
+use Rattle.cs_world.proofs.Came.{asks_for, tells_to}
 use Rattle.cs_world.proofs.Counted.{counts_hub, counts_replica, counts_same}
 use Rattle.cs_world.proofs.Left.{HubLeaves, left_as_it_was, left_of_hub, left_of_replica, next_of_answer}
 use Rattle.cs_world.proofs.Found.{added, in_one_more, none_too, same_or_other, set_at, set_length, set_other, set_same, set_there, still}
+
+-- ---- a request, of a replica or of none, as a letter, and its answer
+
+abbrev pub letter_for : Option ℕ → Asked → Letter
+letter_for (Some r) request = letter.Asks r request
+letter_for None request = letter.Orders request
+
+abbrev pub reply_for : Option ℕ → Vec ℕ Global → Letter
+reply_for (Some r) answer = letter.Tells r answer
+reply_for None answer = letter.Replies answer
 
 module _ {S : Type 0} (g : Ghosts S) (limit : ℕ) where
   abbrev pub held : hub.Holding S → List (replica.Holding S) → List Letter → Holding S
@@ -128,9 +141,24 @@ module _ {S : Type 0} (g : Ghosts S) (limit : ℕ) where
 
     -- ---- an answer that no replica hears
 
+    -- one for nobody
+    replied : (world : World) (k : ℕ) (bytes : Vec ℕ Global) → (message : Sent) × IsMessage world k message × Says (letter.Replies bytes) message → (answer : Answer) × IsMessage world k (Replies answer)
+    replied world k bytes (Asks q asked, there, says) = absurd says
+    replied world k bytes (Orders asked, there, says) = absurd says
+    replied world k bytes (Tells q answer, there, says) = absurd says
+    replied world k bytes (Replies answer, there, says) = (answer, there)
+
+    pub nobody_hears : (k : ℕ) (wishes : List Wish) (bytes : Vec ℕ Global) (ls : List Letter) → ls ≡ letters → slice_get letters k ≡ Some (letter.Replies bytes)
+        → Moves g limit (held h replicas letters) (Deliver k wishes) (told.Heard Ignored) (held h replicas ls)
+    nobody_hears k wishes bytes ls same at =
+        stays (Deliver k wishes) (told.Heard Ignored) (λ none. none) ls same (λ world stands.
+        step.ignores (replied world k bytes (stands.0.messages k (letter.Replies bytes) at)).1)
+
     -- what stands at a letter's number
     told_of : (world : World) (k r : ℕ) (bytes : Vec ℕ Global) → (message : Sent) × IsMessage world k message × Says (letter.Tells r bytes) message → (answer : Answer) × IsMessage world k (Tells r answer) × (bytes.items ≡ answer_spelling answer)
     told_of world k r bytes (Asks q asked, there, says) = absurd says
+    told_of world k r bytes (Orders asked, there, says) = absurd says
+    told_of world k r bytes (Replies answer, there, says) = absurd says
     told_of world k r bytes (Tells q answer, there, (who, spelled)) = (answer, there ∙ ap (λ (x : ℕ). Some (Tells x answer)) (sym who), spelled)
 
     pub none_told : (k r : ℕ) (wishes : List Wish) (bytes : Vec ℕ Global) (ls : List Letter) → ls ≡ letters → slice_get letters k ≡ Some (letter.Tells r bytes) → length replicas ≤ r
@@ -153,7 +181,7 @@ module _ {S : Type 0} (g : Ghosts S) (limit : ℕ) where
     module _ (r : ℕ) (old : replica.Holding S) (was : slice_get replicas r ≡ Some old) where
       -- it is shown, and placed
       pub member_there : (world : World) → StandsAt g limit (held h replicas letters) world
-          → (before : Member) × IsMember world r before × ShowsMember g world.tables old before
+          → (before : Member) × IsMember world r before × ShowsMember g old before
       member_there world stands = stands.0.members r old was
 
       module _ (new : replica.Holding S) where
@@ -169,7 +197,7 @@ module _ {S : Type 0} (g : Ghosts S) (limit : ℕ) where
           ];
         }
 
-        pub shows_turned : (world : World) (before after : Member) → ShowsWorld g (held h replicas letters) world → IsMember world r before → ShowsMember g world.tables new after
+        pub shows_turned : (world : World) (before after : Member) → ShowsWorld g (held h replicas letters) world → IsMember world r before → ShowsMember g new after
             → ShowsWorld g (held h (slice_set replicas r new) letters) (with_member world r after)
         shows_turned world before after shows is there = record {
           catalog = shows.catalog;
@@ -179,7 +207,7 @@ module _ {S : Type 0} (g : Ghosts S) (limit : ℕ) where
             | inl same ↦ (
               after,
               subst (λ (i : ℕ). slice_get (slice_set world.members r after) i ≡ Some after) (sym same.0) (set_there world.members r after before is),
-              subst (λ (x : replica.Holding S). ShowsMember g world.tables x after) (sym same.1) there,
+              subst (λ (x : replica.Holding S). ShowsMember g x after) (sym same.1) there,
             )
             | inr other ↦
                 let m = shows.members j one other.1 in
@@ -189,32 +217,34 @@ module _ {S : Type 0} (g : Ghosts S) (limit : ℕ) where
           messages = shows.messages;
         }
 
-        module _ (turn : List TableDef → Member → Member → Type 0) (turns : Turns g (turn old.catalog) old new) (ls : List Letter) (all : AreHonest g (held h (slice_set replicas r new) ls)) (world : World) (stands : StandsAt g limit (held h replicas letters) world) where
-          pub turned_there : (before : Member) × IsMember world r before × ((after : Member) × turn world.tables before after × ShowsMember g world.tables new after)
+        module _ (turn : Member → Member → Type 0) (turns : Turns g turn old new) (ls : List Letter) (all : AreHonest g (held h (slice_set replicas r new) ls)) (world : World) (stands : StandsAt g limit (held h replicas letters) world) where
+          pub turned_there : (before : Member) × IsMember world r before × ((after : Member) × turn before after × ShowsMember g new after)
           turned_there =
               let m = member_there world stands in
               let placed = stands.1.placed r m.0 m.1 in
-              let before : member_of old m.0.view ≡ m.0 = ap (λ (p : Position). record { position = p; view = m.0.view }) m.2.position in
-              let t = turns.turned (all.replicas r new (set_there replicas r new old was)) (subst AreTables (sym m.2.catalog) stands.1.tables) (subst FitsPosition (sym m.2.position) placed.fits) m.0.view m.2.shows in (
+              let before : member_of old m.0.view ≡ m.0 =
+              ap (λ (p : Position). record { tables = old.catalog; position = p; view = m.0.view }) m.2.position
+              ∙ ap (λ (ts : List TableDef). record { tables = ts; position = m.0.position; view = m.0.view }) m.2.catalog in
+              let t = turns.turned (all.replicas r new (set_there replicas r new old was)) (subst AreTables (sym m.2.catalog) placed.are) (subst FitsPosition (sym m.2.position) placed.fits) m.0.view m.2.shows in (
                 m.0,
                 m.1,
                 (
                   member_of new t.0,
-                  subst (λ (b : Member). turn world.tables b (member_of new t.0)) before (subst (λ (c : List TableDef). turn c (member_of old m.0.view) (member_of new t.0)) m.2.catalog t.3),
-                  record { catalog = turns.catalog ∙ m.2.catalog; position = refl; shows = t.1 },
+                  subst (λ (b : Member). turn b (member_of new t.0)) before t.3,
+                  record { catalog = refl; position = refl; shows = t.1 },
                 ),
               )
 
         -- what a commit that failed would have left is what that of an event would
-        abbrev Would : (List TableDef → Position → Contents → Contents → Type 0) → Type 0
+        abbrev Would : (Position → Contents → Contents → Type 0) → Type 0
         Would failed =
-            (world : World) → StandsAt g limit (held h replicas letters) world → (position : Position) (now left : Contents) → failed world.tables position now left
-            → (event : Event) × WouldLeave world r position now left event
+            (world : World) → StandsAt g limit (held h replicas letters) world → (position : Position) (now left : Contents) → failed position now left
+            → (event : Event) × WouldLeave world r new.catalog position now left event
 
         -- the replica is as it was
-        pub unturned : (failed : List TableDef → Position → Contents → Contents → Type 0) → CallLeaves g (failed old.catalog) old new → Would failed
-            → (event : Event) (outcome : Outcome) → Counts g (SaysDevice outcome) old new → (ls : List Letter) → ls ≡ letters → (turn : List TableDef → Member → Member → Type 0) → Turns g (turn old.catalog) old new
-            → ((world : World) (before after : Member) → IsMember world r before → turn world.tables before after → (after ≡ before) × Step limit world event outcome world)
+        pub unturned : (failed : Position → Contents → Contents → Type 0) → CallLeaves g failed old new → Would failed
+            → (event : Event) (outcome : Outcome) → Counts g (SaysDevice outcome) old new → (ls : List Letter) → ls ≡ letters → (turn : Member → Member → Type 0) → Turns g turn old new
+            → ((world : World) (before after : Member) → IsMember world r before → turn before after → (after ≡ before) × Step limit world event outcome world)
             → Moves g limit (held h replicas letters) event outcome (held h (slice_set replicas r new) ls)
         unturned failed leaves would event outcome counts ls same turn turns steps =
             subst (λ (l : List Letter). Moves g limit (held h replicas letters) event outcome (held h (slice_set replicas r new) l)) (sym same) (record {
@@ -233,9 +263,9 @@ module _ {S : Type 0} (g : Ghosts S) (limit : ℕ) where
             })
 
         -- the replica is another, and nothing is sent
-        pub turned : (failed : List TableDef → Position → Contents → Contents → Type 0) → CallLeaves g (failed old.catalog) old new → Would failed
-            → (event : Event) (outcome : Outcome) → Counts g (SaysDevice outcome) old new → (ls : List Letter) → ls ≡ letters → (turn : List TableDef → Member → Member → Type 0) → Turns g (turn old.catalog) old new
-            → ((world : World) (before after : Member) → StandsAt g limit (held h replicas letters) world → IsMember world r before → turn world.tables before after → Step limit world event outcome (with_member world r after))
+        pub turned : (failed : Position → Contents → Contents → Type 0) → CallLeaves g failed old new → Would failed
+            → (event : Event) (outcome : Outcome) → Counts g (SaysDevice outcome) old new → (ls : List Letter) → ls ≡ letters → (turn : Member → Member → Type 0) → Turns g turn old new
+            → ((world : World) (before after : Member) → StandsAt g limit (held h replicas letters) world → IsMember world r before → turn before after → Step limit world event outcome (with_member world r after))
             → Moves g limit (held h replicas letters) event outcome (held h (slice_set replicas r new) ls)
         turned failed leaves would event outcome counts ls same turn turns steps =
             subst (λ (l : List Letter). Moves g limit (held h replicas letters) event outcome (held h (slice_set replicas r new) l)) (sym same) (record {
@@ -252,50 +282,50 @@ module _ {S : Type 0} (g : Ghosts S) (limit : ℕ) where
 
         -- ---- each event
 
-        by_edit : (asked : Edit) → Would (λ tables. IsEditedBy tables asked)
-        by_edit asked world stands position now left made = (OnEdit r asked, found.edited made)
+        by_edit : (asked : Edit) → new.catalog ≡ old.catalog → Would (IsEditedBy old.catalog asked)
+        by_edit asked kept world stands position now left made = (OnEdit r asked, found.edited (rw kept made))
 
-        by_push : Would IsPushMadeIn
-        by_push world stands position now left made = (MakePush r, found.pushed made)
+        by_push : new.catalog ≡ old.catalog → Would (IsPushMadeIn old.catalog)
+        by_push kept world stands position now left made = (MakePush r, found.pushed (rw kept made))
 
-        edit_step : (asked : Edit) (world : World) (before after : Member) → IsMember world r before → IsEditedTo world.tables asked (Ok tt) before after → Step limit world (OnEdit r asked) told.Done (with_member world r after)
+        edit_step : (asked : Edit) (world : World) (before after : Member) → IsMember world r before → IsEditedTo asked (Ok tt) before after → Step limit world (OnEdit r asked) told.Done (with_member world r after)
         edit_step asked world before after is (count, next, left, same, made, shows) =
             subst (λ (m : Member). Step limit world (OnEdit r asked) told.Done (with_member world r m)) (sym same) (step.edits {left = left} count is made shows)
 
-        pub edits : (asked : Edit) (ls : List Letter) → ls ≡ letters → Counts g ⊥ old new → CallLeaves g (IsEditedBy old.catalog asked) old new → Turns g (IsEditedTo old.catalog asked (Ok tt)) old new
+        pub edits : (asked : Edit) (ls : List Letter) → ls ≡ letters → new.catalog ≡ old.catalog → Counts g ⊥ old new → CallLeaves g (IsEditedBy old.catalog asked) old new → Turns g (IsEditedTo asked (Ok tt)) old new
             → Moves g limit (held h replicas letters) (OnEdit r asked) told.Done (held h (slice_set replicas r new) ls)
-        edits asked ls same counts leaves turns =
-            turned (λ tables. IsEditedBy tables asked) leaves (by_edit asked) (OnEdit r asked) told.Done counts ls same (λ tables. IsEditedTo tables asked (Ok tt)) turns (λ world before after stands is t. edit_step asked world before after is t)
+        edits asked ls same kept counts leaves turns =
+            turned (IsEditedBy old.catalog asked) leaves (by_edit asked kept) (OnEdit r asked) told.Done counts ls same (IsEditedTo asked (Ok tt)) turns (λ world before after stands is t. edit_step asked world before after is t)
 
-        pub edits_not : (asked : Edit) (fault : EditFault) (ls : List Letter) → ls ≡ letters → Counts g (SaysDevice (told.NotEdited fault)) old new → CallLeaves g (IsEditedBy old.catalog asked) old new → Turns g (IsEditedTo old.catalog asked (Err fault)) old new
+        pub edits_not : (asked : Edit) (fault : EditFault) (ls : List Letter) → ls ≡ letters → new.catalog ≡ old.catalog → Counts g (SaysDevice (told.NotEdited fault)) old new → CallLeaves g (IsEditedBy old.catalog asked) old new → Turns g (IsEditedTo asked (Err fault)) old new
             → Moves g limit (held h replicas letters) (OnEdit r asked) (told.NotEdited fault) (held h (slice_set replicas r new) ls)
-        edits_not asked fault ls same counts leaves turns =
-            unturned (λ tables. IsEditedBy tables asked) leaves (by_edit asked) (OnEdit r asked) (told.NotEdited fault) counts ls same (λ tables. IsEditedTo tables asked (Err fault)) turns (λ world before after is t. (t.0, step.edits_not is t.1))
+        edits_not asked fault ls same kept counts leaves turns =
+            unturned (IsEditedBy old.catalog asked) leaves (by_edit asked kept) (OnEdit r asked) (told.NotEdited fault) counts ls same (IsEditedTo asked (Err fault)) turns (λ world before after is t. (t.0, step.edits_not is t.1))
 
-        pub pushes_not : (fault : PushFault) (ls : List Letter) → ls ≡ letters → Counts g (SaysDevice (told.NotPushed fault)) old new → CallLeaves g (IsPushMadeIn old.catalog) old new → Turns g (IsPushedTo old.catalog (Err fault)) old new
+        pub pushes_not : (fault : PushFault) (ls : List Letter) → ls ≡ letters → new.catalog ≡ old.catalog → Counts g (SaysDevice (told.NotPushed fault)) old new → CallLeaves g (IsPushMadeIn old.catalog) old new → Turns g (IsPushedTo (Err fault)) old new
             → Moves g limit (held h replicas letters) (MakePush r) (told.NotPushed fault) (held h (slice_set replicas r new) ls)
-        pushes_not fault ls same counts leaves turns =
-            unturned IsPushMadeIn leaves by_push (MakePush r) (told.NotPushed fault) counts ls same (λ tables. IsPushedTo tables (Err fault)) turns (λ world before after is t. (t.0, step.pushes_not is t.1))
+        pushes_not fault ls same kept counts leaves turns =
+            unturned (IsPushMadeIn old.catalog) leaves (by_push kept) (MakePush r) (told.NotPushed fault) counts ls same (IsPushedTo (Err fault)) turns (λ world before after is t. (t.0, step.pushes_not is t.1))
 
         pub restarts : (ls : List Letter) → ls ≡ letters → Counts g ⊥ old new → CallLeaves g (λ position now left. ⊥) old new → Turns g (IsReloadedTo (Ok tt)) old new
             → Moves g limit (held h replicas letters) (Restart r) told.Done (held h (slice_set replicas r new) ls)
         restarts ls same counts leaves turns =
-            unturned (λ tables position now left. ⊥) leaves (λ world stands position now left none. absurd none) (Restart r) told.Done counts ls same (λ tables. IsReloadedTo (Ok tt)) turns (λ world before after is t. (t.0, step.restarts is))
+            unturned (λ position now left. ⊥) leaves (λ world stands position now left none. absurd none) (Restart r) told.Done counts ls same (IsReloadedTo (Ok tt)) turns (λ world before after is t. (t.0, step.restarts is))
 
         pub restarts_not : (fault : OpenFault) (ls : List Letter) → ls ≡ letters → Counts g (SaysDevice (told.NotReloaded fault)) old new → CallLeaves g (λ position now left. ⊥) old new → Turns g (IsReloadedTo (Err fault)) old new
             → Moves g limit (held h replicas letters) (Restart r) (told.NotReloaded fault) (held h (slice_set replicas r new) ls)
         restarts_not fault ls same counts leaves turns =
-            unturned (λ tables position now left. ⊥) leaves (λ world stands position now left none. absurd none) (Restart r) (told.NotReloaded fault) counts ls same (λ tables. IsReloadedTo (Err fault)) turns (λ world before after is t. (t.0, step.restarts_not is t.1))
+            unturned (λ position now left. ⊥) leaves (λ world stands position now left none. absurd none) (Restart r) (told.NotReloaded fault) counts ls same (IsReloadedTo (Err fault)) turns (λ world before after is t. (t.0, step.restarts_not is t.1))
 
         -- a push is made
         pub pushes : (request : RequestBuf) (asked : Asked) (outcome : Outcome) (ls all : List Letter) → asked ≡ asked_by_owned request → ls ≡ letters → all ≡ ls ++ letter.Asks r asked ∷ [] → outcome ≡ told.Sent (length ls)
-            → Counts g ⊥ old new → CallLeaves g (IsPushMadeIn old.catalog) old new → Turns g (IsPushedTo old.catalog (Ok request)) old new
+            → new.catalog ≡ old.catalog → Counts g ⊥ old new → CallLeaves g (IsPushMadeIn old.catalog) old new → Turns g (IsPushedTo (Ok request)) old new
             → Moves g limit (held h replicas letters) (MakePush r) outcome (held h (slice_set replicas r new) all)
-        pushes request asked outcome ls all asks same is as_told counts leaves turns =
+        pushes request asked outcome ls all asks same is as_told kept counts leaves turns =
             subst (λ (l : List Letter). Moves g limit (held h replicas letters) (MakePush r) outcome (held h (slice_set replicas r new) l)) (sym (is ∙ ap (λ (l : List Letter). l ++ letter.Asks r asked ∷ []) same)) (record {
               was_honest = honest_back (letters ++ letter.Asks r asked ∷ []) turns.was_honest;
               moved = λ good world stands.
-                  let t = turned_there (λ tables. IsPushedTo tables (Ok request)) turns (letters ++ letter.Asks r asked ∷ []) good world stands in
+                  let t = turned_there (IsPushedTo (Ok request)) turns (letters ++ letter.Asks r asked ∷ []) good world stands in
                   let p = t.2.1 in
                   let message : Sent = Asks r (request_of (pushed t.0.position p.0) p.0) in
                   let number : told.Sent (length world.messages) ≡ outcome = ap (λ (n : ℕ). told.Sent n) (sym stands.0.messages_count ∙ ap (λ (l : List Letter). length l) (sym same)) ∙ sym as_told in
@@ -305,11 +335,11 @@ module _ {S : Type 0} (g : Ghosts S) (limit : ℕ) where
                     subst (λ (o : Outcome). Step limit world (MakePush r) o (with_message (with_member world r t.2.0) message)) number made,
                     shown_and_said world t.0 t.2.0 message stands.0 t.1 t.2.2 (asks ∙ p.4),
                   );
-              left = left_of_replica g limit h replicas letters r old new was IsPushMadeIn leaves by_push (letters ++ letter.Asks r asked ∷ []);
+              left = left_of_replica g limit h replicas letters r old new was (IsPushMadeIn old.catalog) leaves (by_push kept) (letters ++ letter.Asks r asked ∷ []);
               counts = counts_replica g (SaysDevice outcome) ⊥ (λ says. subst SaysDevice as_told says) h replicas r old new was counts letters (letters ++ letter.Asks r asked ∷ []);
             })
           where
-            shown_and_said : (world : World) (before after : Member) (message : Sent) → ShowsWorld g (held h replicas letters) world → IsMember world r before → ShowsMember g world.tables new after
+            shown_and_said : (world : World) (before after : Member) (message : Sent) → ShowsWorld g (held h replicas letters) world → IsMember world r before → ShowsMember g new after
                 → {its : Asked} → asked ≡ its → ShowsWorld g (held h (slice_set replicas r new) (letters ++ letter.Asks r asked ∷ [])) (with_message (with_member world r after) (Asks r its))
             shown_and_said world before after message shows at there {its = its} same_asked =
                 says_more h (slice_set replicas r new) letters (with_member world r after) (letter.Asks r asked) (Asks r its) (shows_turned world before after shows at there) (refl, same_asked)
@@ -319,11 +349,11 @@ module _ {S : Type 0} (g : Ghosts S) (limit : ℕ) where
             → slice_get letters k ≡ Some (letter.Tells r bytes) → FitsAnswer answer → bytes.items ≡ answer_spelling answer
             → OneToldAnswer
             → Counts g (SaysDevice (heard result)) old new
-            → CallLeaves g (IsAnsweredNext IsWished old.catalog answer) old new
-            → Turns g (IsAnsweredTo IsWished old.catalog answer wishes result) old new
+            → CallLeaves g (IsAnsweredNext IsWished new.catalog answer) old new
+            → Turns g (IsAnsweredTo IsWished answer wishes result) old new
             → Moves g limit (held h replicas letters) (Deliver k wishes) (heard result) (held h (slice_set replicas r new) ls)
         hears k wishes bytes answer result ls same at fits spelled one counts leaves turns =
-            turned (λ tables. IsAnsweredNext IsWished tables answer) leaves by_answer (Deliver k wishes) (heard result) counts ls same (λ tables. IsAnsweredTo IsWished tables answer wishes result) turns
+            turned (IsAnsweredNext IsWished new.catalog answer) leaves by_answer (Deliver k wishes) (heard result) counts ls same (IsAnsweredTo IsWished answer wishes result) turns
             (λ world before after stands is t. told_step world before after stands is t (told_of world k r bytes (stands.0.messages k (letter.Tells r bytes) at)))
           where
             message_is : (world : World) → StandsAt g limit (held h replicas letters) world → (its : Answer) × IsMessage world k (Tells r its) × (bytes.items ≡ answer_spelling its) → IsMessage world k (Tells r answer)
@@ -332,11 +362,11 @@ module _ {S : Type 0} (g : Ghosts S) (limit : ℕ) where
                 let same_answer : its ≡ answer = cc in
                 there ∙ ap (λ (a : Answer). Some (Tells r a)) same_answer
 
-            by_answer : Would (λ tables. IsAnsweredNext IsWished tables answer)
+            by_answer : Would (IsAnsweredNext IsWished new.catalog answer)
             by_answer world stands position now left next =
-                next_of_answer world k r answer position now left (message_is world stands (told_of world k r bytes (stands.0.messages k (letter.Tells r bytes) at))) next
+                next_of_answer world k r new.catalog answer position now left (message_is world stands (told_of world k r bytes (stands.0.messages k (letter.Tells r bytes) at))) next
 
-            told_step : (world : World) (before after : Member) → StandsAt g limit (held h replicas letters) world → IsMember world r before → Hears world.tables before answer wishes result after
+            told_step : (world : World) (before after : Member) → StandsAt g limit (held h replicas letters) world → IsMember world r before → Hears before answer wishes result after
                 → (its : Answer) × IsMessage world k (Tells r its) × (bytes.items ≡ answer_spelling its) → Step limit world (Deliver k wishes) (heard result) (with_member world r after)
             told_step world before after stands is t (its, there, its_spelled) =
                 step.hears (message_is world stands (its, there, its_spelled)) is t
@@ -378,23 +408,44 @@ module _ {S : Type 0} (g : Ghosts S) (limit : ℕ) where
 
     -- ---- the hub serves
 
-    module _ (small : limit < 2 ^ 32) (fit : AnswersFit) (k r : ℕ) (request : Asked) (at : slice_get letters k ≡ Some (letter.Asks r request)) where
+    module _ (small : limit < 2 ^ 32) (fit : AnswersFit) (k : ℕ) (to : Option ℕ) (request : Asked) (at : slice_get letters k ≡ Some (letter_for to request)) where
       weaker : (device : Type 0) (old new : _) (asked answer : List ℕ) → ServesIf device limit old asked answer new → ServesIf (Unit {0}) limit old asked answer new
       weaker device old new asked answer (inl serves) = inl serves
       weaker device old new asked answer (inr (failed_so, is, same)) = inr (tt, is, same)
 
-      what_was_asked : (world : World) → (message : Sent) × IsMessage world k message × Says (letter.Asks r request) message → IsMessage world k (Asks r request)
-      what_was_asked world (Asks q asked, there, (who, is)) =
-          there ∙ (ap (λ (x : ℕ). Some (Asks x asked)) (sym who) ∙ ap (λ (a : Asked). Some (Asks r a)) (sym is))
-      what_was_asked world (Tells q answer, there, says) = absurd says
+      says_so : (who : Option ℕ) (message : Sent) → Says (letter_for who request) message → message ≡ asks_for who request
+      says_so (Some r) (Asks q asked) (same, is) = ap (λ (x : ℕ). Asks x asked) (sym same) ∙ ap (λ (a : Asked). Asks r a) (sym is)
+      says_so (Some r) (Tells q answer) says = absurd says
+      says_so (Some r) (Orders asked) says = absurd says
+      says_so (Some r) (Replies answer) says = absurd says
+      says_so None (Asks q asked) says = absurd says
+      says_so None (Tells q answer) says = absurd says
+      says_so None (Orders asked) is = ap (λ (a : Asked). Orders a) (sym is)
+      says_so None (Replies answer) says = absurd says
 
-      would_serve : (world : World) → StandsAt g limit (held h replicas letters) world → (bytes : List ℕ) → bytes ≡ request_spelling request → (now left : Contents) → IsServedIn limit h.catalog bytes now left → WouldServe limit world now left
+      what_was_asked : (world : World) → (message : Sent) × IsMessage world k message × Says (letter_for to request) message → IsMessage world k (asks_for to request)
+      what_was_asked world (message, there, says) = there ∙ ap (λ (m : Sent). Some m) (says_so to message says)
+
+      is_request : (world : World) (who : Option ℕ) → IsMessage world k (asks_for who request) → IsRequest world k request
+      is_request world (Some r) there = inl (r, there)
+      is_request world None there = inr there
+
+      served_so : (world : World) (wishes : List Wish) (answer : Answer) (log : List LogEntry) (who : Option ℕ) → IsMessage world k (asks_for who request) → FitsAnswer answer
+          → ServesIf (Unit {0}) limit (hub_of world.tables world.log) (request_spelling request) (answer_spelling answer) (hub_of world.tables log)
+          → Step limit world (Deliver k wishes) (told.Sent (length world.messages)) (with_message (with_log world log) (tells_to who answer))
+      served_so world wishes answer log (Some r) there fits serves = step.serves answer there fits serves
+      served_so world wishes answer log None there fits serves = step.obeys answer there fits serves
+
+      tells_so : (who : Option ℕ) (bytes : Vec ℕ Global) (answer : Answer) → bytes.items ≡ answer_spelling answer → Says (reply_for who bytes) (tells_to who answer)
+      tells_so (Some r) bytes answer is = (refl, is)
+      tells_so None bytes answer is = is
+
+      would_serve : (world : World) → StandsAt g limit (held h replicas letters) world → (bytes : List ℕ) → bytes ≡ request_spelling request → (now left : Contents) → IsServedBy limit h.catalog bytes now left → WouldServe limit world now left
       would_serve world stands bytes spelled now left served = record {
         message = k;
-        who = r;
         asked = request;
-        sent = what_was_asked world (stands.0.messages k (letter.Asks r request) at);
-        served = subst (λ (b : List ℕ). IsServedIn limit world.tables b now left) spelled (subst (λ (t : List TableDef). IsServedIn limit t bytes now left) stands.0.catalog served);
+        sent = is_request world to (what_was_asked world (stands.0.messages k (letter_for to request) at));
+        served = subst (λ (b : List ℕ). IsServedBy limit world.tables b now left) spelled (subst (λ (t : List TableDef). IsServedBy limit t bytes now left) stands.0.catalog served);
       }
 
       hub_left : (bytes : List ℕ) → bytes ≡ request_spelling request → (new : hub.Holding S) → HubLeaves g limit bytes h new → (ls : List Letter) → KeepsLeft g limit (held h replicas letters) (held new replicas ls)
@@ -409,18 +460,18 @@ module _ {S : Type 0} (g : Ghosts S) (limit : ℕ) where
       pub serves : (wishes : List Wish) (bytes : List ℕ) (answer : Vec ℕ Global) (new : hub.Holding S) (outcome : Outcome) (ls all : List Letter) → bytes ≡ request_spelling request
           → AnswersHub g limit h bytes answer.items new
           → HubLeaves g limit bytes h new → g.failed h.store ≤ g.failed new.store
-          → ls ≡ letters → all ≡ ls ++ letter.Tells r answer ∷ [] → outcome ≡ told.Sent (length ls)
+          → ls ≡ letters → all ≡ ls ++ reply_for to answer ∷ [] → outcome ≡ told.Sent (length ls)
           → Moves g limit (held h replicas letters) (Deliver k wishes) outcome (held new replicas all)
       serves wishes bytes answer new outcome ls all spelled answers leaves later same is_all as_told =
-          subst (λ (l : List Letter). Moves g limit (held h replicas letters) (Deliver k wishes) outcome (held new replicas l)) (sym (is_all ∙ ap (λ (l : List Letter). l ++ letter.Tells r answer ∷ []) same)) (record {
+          subst (λ (l : List Letter). Moves g limit (held h replicas letters) (Deliver k wishes) outcome (held new replicas l)) (sym (is_all ∙ ap (λ (l : List Letter). l ++ reply_for to answer ∷ []) same)) (record {
             was_honest = λ good. record { hub = answers.was_honest good.hub; replicas = good.replicas };
             moved = λ good world stands.
-                let there = what_was_asked world (stands.0.messages k (letter.Asks r request) at) in
+                let there = what_was_asked world (stands.0.messages k (letter_for to request) at) in
                 let s = answers.answered good.hub world.log stands.0.log in
                 let by_bytes = weaker (MoreFailures (g.failed h.store) (g.failed new.store)) (hub_of h.catalog world.log) (hub_of h.catalog s.0) bytes answer.items s.1 in
                 let by_tables = subst (λ (t : List TableDef). ServesIf (Unit {0}) limit (hub_of t world.log) bytes answer.items (hub_of t s.0)) stands.0.catalog by_bytes in
                 let by_asked = subst (λ (b : List ℕ). ServesIf (Unit {0}) limit (hub_of world.tables world.log) b answer.items (hub_of world.tables s.0)) spelled by_tables in
-                let f = fit limit world k r request answer.items s.0 small stands.1 there by_asked in
+                let f = fit limit world k request answer.items s.0 small stands.1 (is_request world to there) by_asked in
                 let number : told.Sent (length world.messages) ≡ outcome = ap (λ (n : ℕ). told.Sent n) (sym stands.0.messages_count ∙ ap (λ (l : List Letter). length l) (sym same)) ∙ sym as_told in
                 let next : World = with_log world s.0 in
                 let shown : ShowsWorld g (held new replicas letters) next = record {
@@ -431,13 +482,13 @@ module _ {S : Type 0} (g : Ghosts S) (limit : ℕ) where
                   messages_count = stands.0.messages_count;
                   messages = stands.0.messages;
                 } in (
-                  with_message next (Tells r f.0),
-                  subst (λ (o : Outcome). Step limit world (Deliver k wishes) o (with_message next (Tells r f.0))) number
-                      (step.serves f.0 there f.1 (subst (λ (b : List ℕ). ServesIf (Unit {0}) limit (hub_of world.tables world.log) (request_spelling request) b (hub_of world.tables s.0)) f.2 by_asked)),
-                  says_more new replicas letters next (letter.Tells r answer) (Tells r f.0) shown (refl, f.2),
+                  with_message next (tells_to to f.0),
+                  subst (λ (o : Outcome). Step limit world (Deliver k wishes) o (with_message next (tells_to to f.0))) number
+                      (served_so world wishes f.0 s.0 to there f.1 (subst (λ (b : List ℕ). ServesIf (Unit {0}) limit (hub_of world.tables world.log) (request_spelling request) b (hub_of world.tables s.0)) f.2 by_asked)),
+                  says_more new replicas letters next (reply_for to answer) (tells_to to f.0) shown (tells_so to answer f.0 f.2),
                 );
-            left = hub_left bytes spelled new leaves (letters ++ letter.Tells r answer ∷ []);
-            counts = counts_hub g (SaysDevice outcome) h new (λ says. absurd (subst SaysDevice as_told says)) replicas letters (letters ++ letter.Tells r answer ∷ []) later;
+            left = hub_left bytes spelled new leaves (letters ++ reply_for to answer ∷ []);
+            counts = counts_hub g (SaysDevice outcome) h new (λ says. absurd (subst SaysDevice as_told says)) replicas letters (letters ++ reply_for to answer ∷ []) later;
           })
 
       pub serves_not : (wishes : List Wish) (bytes : List ℕ) (new : hub.Holding S) (ls : List Letter) → bytes ≡ request_spelling request → StaysHub g h new → HubLeaves g limit bytes h new → g.failed h.store ≤ g.failed new.store → ls ≡ letters
@@ -462,4 +513,4 @@ module _ {S : Type 0} (g : Ghosts S) (limit : ℕ) where
           })
         where
           still_shown : (world : World) → g.honest new.store → hub.Shows g.contents h world.log → hub.Shows g.contents new world.log
-          still_shown world good (shows, count) = (rw (kept.catalog, kept.same good) shows, kept.newest ∙ count)
+          still_shown world good (shows, count, widens) = (rw (kept.catalog, kept.same good) shows, kept.newest ∙ count, kept.widens ∙ widens)

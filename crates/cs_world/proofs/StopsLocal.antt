@@ -8,9 +8,9 @@ use Rattle.cs_exchange.specs.pushing.Pushes.{grounded, pushed, request_of}
 use Rattle.cs_wire.specs.Requests.{AsksCatch, AsksPull}
 use Rattle.cs_world.specs.Steps as step
 use Rattle.cs_world.specs.Steps.{Step, addressee, receiver}
-use Rattle.cs_world.specs.World.{Asks, IsMember, IsMessage, Member, Sent, Tells, World, with_member, with_message}
+use Rattle.cs_world.specs.World.{Asks, IsMember, IsMessage, Member, Orders, Replies, Sent, Tells, World, with_member, with_message}
 use Rattle.cs_world.specs.declared.event.Event.{Event}
-use Rattle.cs_world.specs.declared.event.Event.TheVariants.{AskCatch, AskPull, Deliver, MakePush, OnEdit, Resend, Restart}
+use Rattle.cs_world.specs.declared.event.Event.TheVariants.{AskCatch, AskPull, AskWiden, Deliver, MakePush, OnEdit, Resend, Restart}
 use Rattle.cs_world.specs.declared.outcome.Outcome.{Outcome}
 use Rattle.cs_world.specs.declared.outcome.Outcome.TheVariants as told
 use Rattle.cs_world.specs.Left.{AtHub, AtReplica, Kept, Place, kept_at, turned}
@@ -32,8 +32,11 @@ to_replica world (Deliver k wishes) q is = of_message (slice_get world.messages 
     of_message : (message : Option Sent) → reader_of message ≡ Some (AtReplica q) → receiver message ≡ Some q
     of_message (Some (Asks r asked)) at = absurd (let no = at in cc)
     of_message (Some (Tells r answer)) at = cc
+    of_message (Some (Orders asked)) at = absurd (let no = at in cc)
+    of_message (Some (Replies answer)) at = absurd (let no = at in cc)
     of_message None at = absurd (let no = at in cc)
 to_replica world (Restart r) q is = cc
+to_replica world (AskWiden wider) q is = absurd (let no = is in cc)
 
 to_hub : (world : World) (event : Event) → place_of world event ≡ Some AtHub → addressee world event ≡ None
 to_hub world (OnEdit r asked) is = absurd (let no = is in cc)
@@ -46,8 +49,11 @@ to_hub world (Deliver k wishes) is = of_message (slice_get world.messages k) is
     of_message : (message : Option Sent) → reader_of message ≡ Some AtHub → receiver message ≡ None
     of_message (Some (Asks r asked)) at = refl
     of_message (Some (Tells r answer)) at = absurd (let no = at in cc)
+    of_message (Some (Orders asked)) at = refl
+    of_message (Some (Replies answer)) at = refl
     of_message None at = refl
 to_hub world (Restart r) is = absurd (let no = is in cc)
+to_hub world (AskWiden wider) is = refl
 
 -- ---- two worlds in which a store keeps the same
 
@@ -117,24 +123,24 @@ module _ (limit : ℕ) (w : World) (q : ℕ) (m : Member) (there : IsMember w q 
 
   pub made_at : {event : Event} {outcome : Outcome} {new : World} → Step limit w event outcome new → place_of w event ≡ Some (AtReplica q) → Made limit w event new (AtReplica q)
   made_at (step.edits {r = r} {asked = asked} {before = before} {next = next} {left = left} count was made shows) by =
-      let after : Member = record { position = with_pending before.position count; view = next } in
+      let after : Member = record before { position = with_pending before.position count; view = next } in
       of_replica r (OnEdit r asked) (with_member w r after) by
-      (only_member limit w r before was (OnEdit r asked) after (λ w2 a. (told.Done, step.edits {left = left} count (a.same ∙ was) (rw a.tables made) (rw a.tables shows))))
+      (only_member limit w r before was (OnEdit r asked) after (λ w2 a. (told.Done, step.edits {left = left} count (a.same ∙ was) made shows)))
   made_at (step.edits_not {r = r} {asked = asked} {before = before} {fault = fault} was why) by =
       of_replica r (OnEdit r asked) w by
-      (nothing_made limit w r before was (OnEdit r asked) (λ w2 a. (told.NotEdited fault, step.edits_not (a.same ∙ was) (rw a.tables why))))
+      (nothing_made limit w r before was (OnEdit r asked) (λ w2 a. (told.NotEdited fault, step.edits_not (a.same ∙ was) why)))
   made_at (step.pushes {r = r} {before = before} {left = left} {changes = changes} was made) by =
-      let after : Member = record { position = pushed before.position changes; view = grounded before.view } in
+      let after : Member = record before { position = pushed before.position changes; view = grounded before.view } in
       let message : Sent = Asks r (request_of (pushed before.position changes) changes) in
       of_replica r (MakePush r) (with_message (with_member w r after) message) by (record {
         left = after;
         sent = message ∷ [];
         is = refl;
-        again = λ w2 a. (told.Sent (length w2.messages), step.pushes {left = left} (a.same ∙ was) (rw a.tables made));
+        again = λ w2 a. (told.Sent (length w2.messages), step.pushes {left = left} (a.same ∙ was) made);
       })
   made_at (step.pushes_not {r = r} {before = before} {fault = fault} was why) by =
       of_replica r (MakePush r) w by
-      (nothing_made limit w r before was (MakePush r) (λ w2 a. (told.NotPushed fault, step.pushes_not (a.same ∙ was) (rw a.tables why))))
+      (nothing_made limit w r before was (MakePush r) (λ w2 a. (told.NotPushed fault, step.pushes_not (a.same ∙ was) why)))
   made_at (step.resends {r = r} {before = before} {changes = changes} was flight) by =
       let message : Sent = Asks r (request_of before.position changes) in
       of_replica r (Resend r) (with_message w message) by
@@ -157,9 +163,12 @@ module _ (limit : ℕ) (w : World) (q : ℕ) (m : Member) (there : IsMember w q 
       of_replica r (Restart r) w by
       (nothing_made limit w r before was (Restart r) (λ w2 a. (told.NotReloaded fault, step.restarts_not (a.same ∙ was) why)))
   made_at (step.serves answer at fits serves) by = absurd (let no = sym (ap reader_of at) ∙ by in cc)
+  made_at (step.obeys answer at fits serves) by = absurd (let no = sym (ap reader_of at) ∙ by in cc)
+  made_at (step.orders fits) by = absurd (let no = by in cc)
+  made_at (step.ignores at) by = absurd (let no = sym (ap reader_of at) ∙ by in cc)
   made_at (step.hears {k = k} {r = r} {wishes = wishes} {answer = answer} {before = before} {after = after} {result = result} at was hears) by =
       of_replica r (Deliver k wishes) (with_member w r after) (sym (ap reader_of at) ∙ by)
-      (only_member limit w r before was (Deliver k wishes) after (λ w2 a. (step.heard result, step.hears (a.messages k (Tells r answer) at) (a.same ∙ was) (rw a.tables hears))))
+      (only_member limit w r before was (Deliver k wishes) after (λ w2 a. (step.heard result, step.hears (a.messages k (Tells r answer) at) (a.same ∙ was) hears)))
   made_at (step.no_replica {event = event} {r = r} to none) by =
       let both : Some r ≡ Some q = sym to ∙ to_replica w event q by in
       let same : r ≡ q = (let e = both in cc) in
@@ -210,6 +219,16 @@ module _ (limit : ℕ) (w : World) where
         let log_is : w2.log ≡ w.log = (let e = a.same in cc) in
         (told.Sent (length w2.messages), step.serves answer (a.messages k (Asks r asked) at) fits (rw (a.tables, log_is) serves));
   }
+  made_by_hub (step.obeys {k = k} {asked = asked} {log = log} answer at fits serves) by = record {
+    left = log;
+    sent = Replies answer ∷ [];
+    is = refl;
+    again = λ w2 a.
+        let log_is : w2.log ≡ w.log = (let e = a.same in cc) in
+        (told.Sent (length w2.messages), step.obeys answer (a.messages k (Orders asked) at) fits (rw (a.tables, log_is) serves));
+  }
+  made_by_hub (step.orders fits) by = absurd (let no = by in cc)
+  made_by_hub (step.ignores at) by = absurd (let no = sym (ap reader_of at) ∙ by in cc)
   made_by_hub (step.hears {r = r} at was hears) by = absurd (no_replicas r (sym (ap reader_of at) ∙ by))
   made_by_hub (step.no_replica {event = event} to none) by = absurd (let no = sym to ∙ to_hub w event by in cc)
   made_by_hub (step.no_message none) by = absurd (let no = sym (ap reader_of none) ∙ by in cc)
@@ -258,6 +277,7 @@ place_on w w2 more (Deliver k wishes) place is = of_message (slice_get w.message
     of_message None at none = absurd (let no = none in cc)
     of_message (Some message) at reader = ap reader_of (more k message at) ∙ reader
 place_on w w2 more (Restart r) place is = is
+place_on w w2 more (AskWiden wider) place is = is
 
 pub would_on : (limit : ℕ) (w w2 : World) (place : Place) (late : Late place) → WouldStep limit w place late → Agree w w2 place → WouldStep limit w2 place late
 would_on limit w w2 AtHub late would a =
@@ -296,6 +316,9 @@ framed {w = w} {new = new} (step.catches {r = r} {count = count} {before = befor
 framed {w = w} (step.restarts was) = framed_same w
 framed {w = w} (step.restarts_not was why) = framed_same w
 framed {w = w} {new = new} (step.serves {r = r} answer at fits serves) = framed_sent w new (Tells r answer) refl refl
+framed {w = w} {new = new} (step.obeys answer at fits serves) = framed_sent w new (Replies answer) refl refl
+framed {w = w} {new = new} (step.orders {wider = wider} fits) = framed_sent w new (Orders (step.asked_of_wider wider)) refl refl
+framed {w = w} (step.ignores at) = framed_same w
 framed (step.hears at was hears) = record { tables = refl; messages = λ k message at. at }
 framed {w = w} (step.no_replica to none) = framed_same w
 framed {w = w} (step.no_message none) = framed_same w

@@ -2,7 +2,7 @@
 use Rattle.std.proofs.Common.{[], ◌∷◌, refl, ap, inl, arith}
 use Rattle.cs_world.specs.World.{World}
 use Rattle.cs_world.specs.declared.event.Event.{Event}
-use Rattle.cs_world.specs.declared.event.Event.TheVariants.{AskCatch, AskPull, Deliver, MakePush, OnEdit, Resend, Restart}
+use Rattle.cs_world.specs.declared.event.Event.TheVariants.{AskCatch, AskPull, AskWiden, Deliver, MakePush, OnEdit, Resend, Restart}
 use Rattle.cs_world.specs.StopsLaws.{RunsWhole}
 use Rattle.cs_world.specs.Stops.{IsNotLost, opened}
 use Rattle.cs_world.specs.Stops as stops
@@ -15,6 +15,7 @@ none_lost world (AskPull r limit) = tt
 none_lost world (AskCatch r limit) = tt
 none_lost world (Deliver k wishes) = λ at. let few = at.1 in omega (arith, few)
 none_lost world (Restart r) = tt
+none_lost world (AskWiden wider) = tt
 
 pub runs_whole : RunsWhole
 runs_whole limit world next [] [] same = ap opened same

@@ -13,6 +13,7 @@ use Rattle.cs_wire.specs.Requests.{Asked, request_spelling}
 use Rattle.cs_world.specs.Holding.{Holding}
 use Rattle.cs_world.specs.declared.event.Event.{Event}
 use Rattle.cs_world.specs.declared.event.Event.TheVariants.{Deliver}
+use Rattle.cs_world.specs.declared.letter.Letter.{Letter}
 use Rattle.cs_world.specs.declared.letter.Letter.TheVariants as letter
 use Rattle.cs_world.specs.declared.outcome.Outcome.{Outcome}
 use Rattle.cs_world.specs.declared.outcome.Outcome.TheVariants.{Memory, NotEdited, NotHeard, NotPushed, NotReloaded}
@@ -46,11 +47,18 @@ module _ {S : Type 0} (g : Ghosts S) where
         → g.failed one.store ≤ g.failed other.store
     pub cause : told → HasFailed old new
 
-  -- a request that reaches the hub is answered by it, or memory was refused: the hub says that its device failed, and nobody else does
+  -- a request was answered by the hub, or memory was refused. The hub says that its device failed, and nobody else does
+  abbrev pub IsServed : ℕ → Asked → (Vec ℕ Global → Letter) → Outcome → Holding S → Holding S → Type 0
+  IsServed limit request reply outcome old new =
+      (outcome ≡ Memory)
+      ⊎ ((answer : Vec ℕ Global) × (new.letters ≡ old.letters ++ reply answer ∷ [])
+      × AnswersHub g limit old.hub (request_spelling request) answer.items new.hub)
+
+  -- so is each that reaches the hub, of a replica or of none
   abbrev pub AsksHub : ℕ → Event → Outcome → Holding S → Holding S → Type 0
   AsksHub limit (Deliver k wishes) outcome old new =
-      (r : ℕ) (request : Asked) → slice_get old.letters k ≡ Some (letter.Asks r request)
-      → (outcome ≡ Memory)
-      ⊎ ((answer : Vec ℕ Global) × (new.letters ≡ old.letters ++ letter.Tells r answer ∷ [])
-      × AnswersHub g limit old.hub (request_spelling request) answer.items new.hub)
+      ((r : ℕ) (request : Asked) → slice_get old.letters k ≡ Some (letter.Asks r request)
+      → IsServed limit request (letter.Tells r) outcome old new)
+      × ((request : Asked) → slice_get old.letters k ≡ Some (letter.Orders request)
+      → IsServed limit request letter.Replies outcome old new)
   AsksHub limit event outcome old new = Unit {0}

@@ -1,5 +1,5 @@
 -- The headline: what is so of every world that began with nothing, after whatever happened in it (profile of this project).
-use Rattle.std.specs.Prelude.{◌≡◌, ◌≢◌, ◌≤◌, ℕ, List, Contains, length, Some, None, slice_get}
+use Rattle.std.specs.Prelude.{◌≡◌, ◌≢◌, ◌<◌, ◌≤◌, ℕ, List, Contains, length, Some, None, slice_get}
 use Rattle.cs_value.specs.declared.catalog.TableDef.{TableDef}
 use Rattle.cs_change.specs.Action.{action_any, after_any}
 use Rattle.cs_store.specs.log.Log.{catalog_at, tables_at}
@@ -10,6 +10,7 @@ use Rattle.cs_pending.specs.position.Shows.{flown}
 use Rattle.cs_exchange.specs.declared.pulling.fault.AnswerFault.TheVariants.{BadEntry}
 use Rattle.cs_wire.specs.declared.answer.Answer.TheVariants.{Short}
 use Rattle.cs_wire.specs.declared.short_answer.ShortAnswer.TheVariants.{Accepted, Refused}
+use Rattle.cs_hub.specs.declared.judgement.widen.TheConstants.{WIDEN_ORIGIN}
 use Rattle.cs_world.specs.Sound.{IsAcceptedIn, conflict_code}
 use Rattle.cs_world.specs.World.{IsMember, IsMessage, Member, Tells, World}
 use Rattle.cs_world.specs.declared.outcome.Outcome.{Outcome}
@@ -45,9 +46,9 @@ pub record Headline (world : World) : Type 0 where
   pub stands : (r : ℕ) (member : Member) → IsMember world r member → HasHubsRows world member
   -- no push was answered as a conflict
   pub no_conflict : (k r : ℕ) → IsMessage world k (Tells r (Short (Refused conflict_code))) → ⊥
-  -- no two entries of one origin have one number
+  -- no two entries of one replica have one number
   pub counts_once : (at other : ℕ) (entry its : LogEntry) → slice_get world.log at ≡ Some entry → slice_get world.log other ≡ Some its
-      → entry.origin ≡ its.origin → entry.number ≡ its.number → at ≡ other
+      → entry.origin < WIDEN_ORIGIN → entry.origin ≡ its.origin → entry.number ≡ its.number → at ≡ other
   -- a push that is told to be accepted is the entry before the version that is told
   pub accepted : (k r origin number version : ℕ) → IsMessage world k (Tells r (Short (Accepted origin number version)))
       → IsAcceptedIn world.log origin number version

@@ -16,26 +16,29 @@ use Rattle.cs_replica.specs.Laws.{IsInBytes}
 use Rattle.cs_store.specs.Contents.{Contents}
 use Rattle.cs_exchange.specs.taking.Laws.{PicksOnce}
 use Rattle.cs_wire.specs.Answers.{FitsAnswer, answer_spelling}
-use Rattle.cs_wire.specs.Requests.{Asked, request_spelling}
+use Rattle.cs_wire.specs.Requests.{Asked, FitsRequest, request_spelling}
 use Rattle.cs_wire.specs.Entries.{ToldEntry}
 use Rattle.cs_wire.specs.declared.answer.Answer.{Answer}
 use Rattle.cs_wire.specs.declared.answer.Answer.TheVariants.{Entries, Merged}
 use Rattle.cs_conflict.specs.wish_list.Wished.{IsWished}
+use Rattle.cs_hub.specs.declared.judgement.widen.TheConstants.{WIDEN_ORIGIN}
 use Rattle.cs_world.specs.Headline.{Headline, IsGood}
 use Rattle.cs_world.specs.Merges.{CatchesAsMerge, EachMerges, PullsAsMerges, count_in}
 use Rattle.cs_world.specs.Sound.{IsSound}
 use Rattle.cs_world.specs.Same.{IsRefused, IsSameWorld}
-use Rattle.cs_world.specs.Steps.{Step, Steps}
-use Rattle.cs_world.specs.World.{Asks, IsMember, IsMessage, Member, Tells, World, first_world}
+use Rattle.cs_world.specs.Wider.{Wider}
+use Rattle.cs_world.specs.Steps.{Step, Steps, asked_of_wider}
+use Rattle.cs_world.specs.World.{IsMember, IsMessage, IsRequest, Member, Tells, World, first_world}
 use Rattle.cs_world.specs.declared.event.Event.{Event}
-use Rattle.cs_world.specs.declared.event.Event.TheVariants.{AskCatch, AskPull, Deliver, MakePush, OnEdit, Resend, Restart}
+use Rattle.cs_world.specs.declared.event.Event.TheVariants.{AskCatch, AskPull, AskWiden, Deliver, MakePush, OnEdit, Resend, Restart}
 use Rattle.cs_world.specs.declared.outcome.Outcome.{Outcome}
 
 -- a replica to which nothing has happened, shown by some store
 pub record IsFirstMember (tables : List TableDef) (r : ℕ) (member : Member) : Type 0 where
+  pub tables_are : member.tables ≡ tables
   pub position : member.position ≡ first_position r
   pub view : member.view ≡ empty_view
-  pub small : r < 2 ^ 32
+  pub small : r < WIDEN_ORIGIN
   pub contents : Contents
   pub shown : ShowsAt tables contents member.position member.view
 
@@ -67,10 +70,10 @@ WishesPickOnce = PicksOnce IsWished
 -- what the hub of a sound world answers to what was asked of it spells an answer
 abbrev pub AnswersFit : Type 0
 AnswersFit =
-    (limit : ℕ) (world : World) (k r : ℕ) (asked : Asked) (bytes : List ℕ) (log : List LogEntry)
+    (limit : ℕ) (world : World) (k : ℕ) (asked : Asked) (bytes : List ℕ) (log : List LogEntry)
     → limit < 2 ^ 32
     → IsSound limit world
-    → IsMessage world k (Asks r asked)
+    → IsRequest world k asked
     → ServesIf (Unit {0}) limit (hub_of world.tables world.log) (request_spelling asked) bytes (hub_of world.tables log)
     → (answer : Answer) × FitsAnswer answer × (bytes ≡ answer_spelling answer)
 
@@ -169,6 +172,10 @@ AskHasStep = (limit r count : ℕ) (world : World) → count < 2 ^ 32 → HasSte
 -- taken together too
 abbrev pub CatchHasStep : Type 0
 CatchHasStep = (limit r count : ℕ) (world : World) → count < 2 ^ 32 → HasStep limit world (AskCatch r count)
+
+-- and a wider table that is asked for
+abbrev pub OrderHasStep : Type 0
+OrderHasStep = (limit : ℕ) (wider : Wider) (world : World) → FitsRequest (asked_of_wider wider) → HasStep limit world (AskWiden wider)
 
 -- and a store that is read again
 abbrev pub RestartHasStep : Type 0

@@ -3,7 +3,8 @@ use Rattle.std.specs.Prelude.{◌≡◌, ◌⊎◌, ◌<◌, ◌++◌, ℕ, List
 use Rattle.cs_value.specs.declared.catalog.TableDef.{TableDef}
 use Rattle.cs_value.specs.declared.edit.Edit.{Edit}
 use Rattle.cs_conflict.specs.declared.wish.Wish.{Wish}
-use Rattle.cs_hub.specs.Calls.{IsServedIn}
+use Rattle.cs_hub.specs.Serves.{ServesIf}
+use Rattle.cs_hub.specs.judgement.Judged.{hub_of}
 use Rattle.cs_store.specs.declared.log.entry.LogEntry.{LogEntry}
 use Rattle.cs_hub.specs.log_store.Shows.{ShowsLog}
 use Rattle.cs_replica.specs.Step.{IsEditedBy}
@@ -26,7 +27,7 @@ use Rattle.cs_world.specs.Headline.{Headline}
 use Rattle.cs_world.specs.Holding.{AreHonest, Holding, StandsAt}
 use Rattle.cs_world.specs.Sound.{IsSound}
 use Rattle.cs_world.specs.Steps.{Step}
-use Rattle.cs_world.specs.World.{Asks, IsMessage, Member, Sent, Tells, World}
+use Rattle.cs_world.specs.World.{IsMessage, IsRequest, Member, Sent, Tells, World}
 use Rattle.cs_world.specs.declared.event.Event.{Event}
 use Rattle.cs_world.specs.declared.event.Event.TheVariants.{Deliver, MakePush, OnEdit}
 use Rattle.cs_world.specs.declared.outcome.Outcome.{Outcome}
@@ -54,49 +55,56 @@ turned AtHub world log sent = record world { log = log; messages = world.message
 turned (AtReplica r) world member sent =
     record world { members = slice_set world.members r member; messages = world.messages ++ sent }
 
--- contents of such a store show that it keeps this
+-- contents of such a store show that it keeps this; the hub opened with these tables
 abbrev pub ShowsKept : List TableDef → (place : Place) → Contents → Kept place → Type 0
 ShowsKept tables AtHub contents log = ShowsLog tables contents log
-ShowsKept tables (AtReplica r) contents member = ShowsAt tables contents member.position member.view
+ShowsKept tables (AtReplica r) contents member = ShowsAt member.tables contents member.position member.view
+
+-- contents that would be left where a request was served, by the log that was shown
+abbrev pub IsServedBy : ℕ → List TableDef → List ℕ → Contents → Contents → Type 0
+IsServedBy limit opening request old left =
+    (log : List LogEntry) → ShowsLog opening old log
+    → (answer : List ℕ) × (next : List LogEntry) × ServesIf (Unit {0}) limit (hub_of opening log) request answer (hub_of opening next)
+    × ShowsLog opening left next
 
 -- ---- what a failed commit may have left
 
--- what the commit of an event would have left in the store of replica number r. Where the event is a delivery, that is of the message
--- which reaches it
-pub data WouldLeave (world : World) (r : ℕ) (position : Position) (old left : Contents) : Event → Type 0 where
-  edited : {asked : Edit} → IsEditedBy world.tables asked position old left
-      → WouldLeave world r position old left (OnEdit r asked)
-  pushed : IsPushMadeIn world.tables position old left
-      → WouldLeave world r position old left (MakePush r)
+-- what the commit of an event would have left in the store of replica number r, which has these tables. Where the event is a delivery,
+-- that is of the message which reaches it
+pub data WouldLeave (world : World) (r : ℕ) (tables : List TableDef) (position : Position) (old left : Contents) : Event → Type 0 where
+  edited : {asked : Edit} → IsEditedBy tables asked position old left
+      → WouldLeave world r tables position old left (OnEdit r asked)
+  pushed : IsPushMadeIn tables position old left
+      → WouldLeave world r tables position old left (MakePush r)
   confirmed : {k origin number version : ℕ} {wishes : List Wish}
       → IsMessage world k (Tells r (Short (Accepted origin number version)))
-      → IsAccepted position origin number version → IsConfirmedIn world.tables position old left
-      → WouldLeave world r position old left (Deliver k wishes)
+      → IsAccepted position origin number version → IsConfirmedIn tables position old left
+      → WouldLeave world r tables position old left (Deliver k wishes)
   pulled : {k first : ℕ} {entries : List ToldEntry} {wishes : List Wish}
       → IsMessage world k (Tells r (Entries first entries))
-      → IsOneMoreIn IsWished world.tables first entries position old wishes left
-      → WouldLeave world r position old left (Deliver k wishes)
+      → IsOneMoreIn IsWished first entries tables position old wishes left
+      → WouldLeave world r tables position old left (Deliver k wishes)
   merged : {k origin first next : ℕ} {changeset : List ℕ} {wishes : List Wish}
       → IsMessage world k (Tells r (Merged origin first next changeset))
-      → IsForIt position origin first → first < next → IsToldTaken IsWished world.tables next changeset position wishes old left
-      → WouldLeave world r position old left (Deliver k wishes)
+      → IsForIt position origin first → first < next → IsToldTaken IsWished tables next changeset position wishes old left
+      → WouldLeave world r tables position old left (Deliver k wishes)
 
 -- of the hub's store, a request that was sent
 pub record WouldServe (limit : ℕ) (world : World) (old left : Contents) : Type 0 where
   pub message : ℕ
-  pub who : ℕ
   pub asked : Asked
-  pub sent : IsMessage world message (Asks who asked)
-  pub served : IsServedIn limit world.tables (request_spelling asked) old left
+  pub sent : IsRequest world message asked
+  pub served : IsServedBy limit world.tables (request_spelling asked) old left
 
 -- ---- what a stop leaves
 
 module _ {S : Type 0} (g : Ghosts S) where
-  -- replica number r stands at this position. A stop now leaves of its store what it holds, or what the commit of an event would have left
-  abbrev pub LeavesReplica : World → ℕ → Position → S → Type 0
-  LeavesReplica world r position store =
+  -- replica number r has these tables, and stands at this position. A stop now leaves of its store what it holds, or what the commit of
+  -- an event would have left
+  abbrev pub LeavesReplica : World → ℕ → List TableDef → Position → S → Type 0
+  LeavesReplica world r tables position store =
       (left : Contents) → g.may_leave store left
-      → (left ≡ g.contents store) ⊎ ((event : Event) × WouldLeave world r position (g.contents store) left event)
+      → (left ≡ g.contents store) ⊎ ((event : Event) × WouldLeave world r tables position (g.contents store) left event)
 
   -- and of the hub's store what it holds, or that with a request served that was sent
   abbrev pub LeavesHub : ℕ → World → S → Type 0
@@ -106,7 +114,7 @@ module _ {S : Type 0} (g : Ghosts S) where
   -- so of each store of a world
   pub record Leaves (limit : ℕ) (world : World) (held : Holding S) : Type 0 where
     pub hub : LeavesHub limit world held.hub.store
-    pub replicas : (r : ℕ) (one : replica.Holding S) → slice_get held.replicas r ≡ Some one → LeavesReplica world r one.position one.store
+    pub replicas : (r : ℕ) (one : replica.Holding S) → slice_get held.replicas r ≡ Some one → LeavesReplica world r one.catalog one.position one.store
 
   -- a stop now may leave this of the store there
   abbrev pub MayLeaveAt : Holding S → Place → Contents → Type 0

@@ -1,3 +1,4 @@
+pub mod Wider
 pub mod World
 pub mod Steps
 pub mod Sound

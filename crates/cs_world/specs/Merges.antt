@@ -7,9 +7,12 @@ use Rattle.cs_change.specs.Action.{action_any}
 use Rattle.cs_change.specs.Net.{net}
 use Rattle.cs_conflict.specs.declared.conflict.Resolution.{Resolution}
 use Rattle.cs_conflict.specs.declared.wish.Wish.{Wish}
-use Rattle.cs_store.specs.log.Entry.{entry_changes}
 use Rattle.cs_store.specs.log.Log.{catalog_at, tables_at}
+use Rattle.cs_store.specs.declared.log.body.Body.{Body}
+use Rattle.cs_store.specs.declared.log.body.Body.TheVariants.{Changes, Widen}
 use Rattle.cs_store.specs.declared.log.entry.LogEntry.{LogEntry}
+use Rattle.cs_normal.specs.State.{AreSame}
+use Rattle.cs_widening.specs.Widening.{widened}
 use Rattle.cs_hub.specs.catching.Told.{AreOthersAsOne}
 use Rattle.cs_replica.specs.Same.{IsSameMember, IsSameView}
 use Rattle.cs_normal.specs.Normal.{change_of, groups_of}
@@ -56,13 +59,23 @@ pub record IsConfirmed (position : Position) (entry : LogEntry) (before after : 
   pub rows : after ≡ before
   pub unasked : unused ≡ wishes
 
--- the log's entry at the replica's version was pulled: it is the replica's own, or was merged
+-- the entry widened a table: the own rows have its columns, nobody was asked, and no wish is used
+pub record IsWidenedTo (table : List ℕ) (width : ℕ) (before after : View) (wishes unused : List Wish) : Type 0 where
+  pub rows : AreSame (widened table width before.tables) after.tables
+  pub unasked : unused ≡ wishes
+
+-- what the entry at a version does was taken: its changes were merged, or it widened a table
+abbrev pub TakesBody : World → ℕ → Body → View → View → List Wish → List Wish → Type 0
+TakesBody world version (Changes changes) before after wishes unused =
+    IsMerged world version (version + 1) changes before after wishes unused
+TakesBody world version (Widen table width) before after wishes unused = IsWidenedTo table width before after wishes unused
+
+-- the log's entry at the replica's version was pulled: it is the replica's own, or was taken
 pub record PullsEntry (world : World) (position : Position) (before after : View) (wishes unused : List Wish) : Type 0 where
   pub entry : LogEntry
   pub there : slice_get world.log position.version ≡ Some entry
   pub pulled : IsConfirmed position entry before after wishes unused
-      ⊎ ((IsOwn position entry → ⊥)
-      × IsMerged world position.version (position.version + 1) (entry_changes entry) before after wishes unused)
+      ⊎ ((IsOwn position entry → ⊥) × TakesBody world position.version entry.body before after wishes unused)
   pub pending : IsPendingFrom world (position.version + 1) after
 
 -- so many entries were, one behind another
@@ -78,24 +91,24 @@ pub record PullsAsMerges (world : World) (count : ℕ) (wishes : List Wish) (bef
   pub end : View
   pub unused : List Wish
   pub pulls : PullEntries world count before.position before.view wishes after.position end unused
-  pub same : IsSameView world.tables end after.view
+  pub same : IsSameView after.tables end after.view
 
 -- ---- taken together
 
 -- entries of others from the replica's version on, so many, were taken together: they were merged, and it stands behind them
 pub record TakesMerged (world : World) (next count : ℕ) (changeset : List ℕ) (wishes : List Wish) (before after : Member) : Type 0 where
-  pub told : AreOthersAsOne world.tables world.log before.position.id before.position.version next changeset
+  pub told : AreOthersAsOne (catalog_at world.tables world.log before.position.version) world.log before.position.id before.position.version next changeset
   pub moved : after.position.version ≡ next
   pub all : next ≡ before.position.version + count
   pub end : View
   pub unused : List Wish
   pub merged : IsMerged world before.position.version next told.changes before.view end wishes unused
   pub pending : IsPendingFrom world next end
-  pub same : IsSameView world.tables end after.view
+  pub same : IsSameView before.tables end after.view
 
 -- so many were, or none: then it is as it was
 abbrev pub CatchesAsMerge : World → ℕ → ℕ → List ℕ → List Wish → Member → Member → Type 0
-CatchesAsMerge world next zero changeset wishes before after = IsSameMember world.tables before after
+CatchesAsMerge world next zero changeset wishes before after = IsSameMember before after
 CatchesAsMerge world next (suc count) changeset wishes before after = TakesMerged world next (suc count) changeset wishes before after
 
 -- ---- how many entries an outcome tells

@@ -11,6 +11,8 @@ use Rattle.cs_world.specs.Holding.{AreHonest, Holding, StandsAt}
 abbrev pub letter_receiver : Option Letter → Option ℕ
 letter_receiver (Some (letter.Tells r bytes)) = Some r
 letter_receiver (Some (letter.Asks r request)) = None
+letter_receiver (Some (letter.Orders request)) = None
+letter_receiver (Some (letter.Replies bytes)) = None
 letter_receiver None = None
 
 module _ {S : Type 0} (g : Ghosts S) where

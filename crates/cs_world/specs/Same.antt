@@ -7,7 +7,7 @@ use Rattle.cs_exchange.specs.declared.pushing.fault.PushFault.TheVariants as pus
 use Rattle.cs_replica.specs.Laws.{IsOfAnswer}
 use Rattle.cs_wire.specs.declared.answer.Answer.TheVariants.{Short}
 use Rattle.cs_wire.specs.declared.short_answer.ShortAnswer.TheVariants.{Refused}
-use Rattle.cs_world.specs.World.{IsMember, IsMessage, Member, Tells, World}
+use Rattle.cs_world.specs.World.{IsMember, IsMessage, Member, Replies, Tells, World}
 use Rattle.cs_world.specs.declared.outcome.Outcome.{Outcome}
 use Rattle.cs_world.specs.declared.outcome.Outcome.TheVariants.{Done, Heard, Memory, NoMessage, NoReplica, NotEdited, NotHeard, NotPushed, NotReloaded, Sent}
 
@@ -17,7 +17,7 @@ pub record IsSameWorld (world other : World) : Type 0 where
   pub log : other.log ≡ world.log
   pub messages : other.messages ≡ world.messages
   pub count : length other.members ≡ length world.members
-  pub members : (r : ℕ) (member its : Member) → IsMember world r member → IsMember other r its → IsSameMember world.tables member its
+  pub members : (r : ℕ) (member its : Member) → IsMember world r member → IsMember other r its → IsSameMember member its
 
 -- the code by which a hub tells that its device failed
 abbrev pub device_code : ℕ
@@ -27,7 +27,9 @@ device_code = 44
 -- its answer tells
 abbrev pub IsRefused : Outcome → World → Type 0
 IsRefused Done world = ⊥
-IsRefused (Sent number) world = (r : ℕ) × IsMessage world number (Tells r (Short (Refused device_code)))
+IsRefused (Sent number) world =
+    ((r : ℕ) × IsMessage world number (Tells r (Short (Refused device_code))))
+    ⊎ IsMessage world number (Replies (Short (Refused device_code)))
 IsRefused (Heard told) world = ⊥
 IsRefused NoReplica world = ⊥
 IsRefused NoMessage world = ⊥

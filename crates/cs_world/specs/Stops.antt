@@ -1,5 +1,6 @@
 -- Runs of a world in which processes stop (profile of this project).
 use Rattle.std.specs.Prelude.{◌≡◌, ◌≢◌, ◌⊎◌, ◌↔◌, ◌<◌, ◌≤◌, ◌++◌, ℕ, List, [], ◌∷◌, Contains, Option, Some, None, IsSome, length, slice_get}
+use Rattle.cs_value.specs.declared.catalog.TableDef.{TableDef}
 use Rattle.cs_conflict.specs.declared.wish.Wish.{Wish}
 use Rattle.cs_exchange.specs.declared.pulling.fault.AnswerFault.TheVariants as fault
 use Rattle.cs_exchange.specs.pulling.Listed.{PullsMany}
@@ -12,9 +13,9 @@ use Rattle.cs_world.specs.Left.{AtHub, AtReplica, Kept, Place, kept_at, turned}
 use Rattle.cs_world.specs.Merges.{count_in}
 use Rattle.cs_world.specs.Same.{IsRefused}
 use Rattle.cs_world.specs.Steps.{Step}
-use Rattle.cs_world.specs.World.{Asks, IsMember, IsMessage, Member, Sent, Tells, World}
+use Rattle.cs_world.specs.World.{Asks, IsMember, IsMessage, Member, Orders, Replies, Sent, Tells, World}
 use Rattle.cs_world.specs.declared.event.Event.{Event}
-use Rattle.cs_world.specs.declared.event.Event.TheVariants.{AskCatch, AskPull, Deliver, MakePush, OnEdit, Resend, Restart}
+use Rattle.cs_world.specs.declared.event.Event.TheVariants.{AskCatch, AskPull, AskWiden, Deliver, MakePush, OnEdit, Resend, Restart}
 use Rattle.cs_world.specs.declared.outcome.Outcome.{Outcome}
 use Rattle.cs_world.specs.declared.outcome.Outcome.TheVariants.{NotHeard}
 
@@ -24,6 +25,8 @@ use Rattle.cs_world.specs.declared.outcome.Outcome.TheVariants.{NotHeard}
 abbrev pub reader_of : Option Sent → Option Place
 reader_of (Some (Asks r asked)) = Some AtHub
 reader_of (Some (Tells r answer)) = Some (AtReplica r)
+reader_of (Some (Orders asked)) = Some AtHub
+reader_of (Some (Replies answer)) = None
 reader_of None = None
 
 -- in which store an event writes, if it writes
@@ -35,6 +38,7 @@ place_of world (AskPull r limit) = Some (AtReplica r)
 place_of world (AskCatch r limit) = Some (AtReplica r)
 place_of world (Deliver k wishes) = reader_of (slice_get world.messages k)
 place_of world (Restart r) = Some (AtReplica r)
+place_of world (AskWiden wider) = None
 
 -- ---- what a stop may leave
 
@@ -69,7 +73,8 @@ AreLeft world k count wishes left =
     ((count ≡ 0) × (left ≡ wishes))
     ⊎ ((r : ℕ) × (first : ℕ) × (entries : List ToldEntry) × (before : Member) × (other : Position) × (end : View)
     × IsMessage world k (Tells r (Entries first entries)) × IsMember world r before
-    × PullsMany IsWished world.tables first entries count before.position before.view wishes other end left)
+    × (others : List TableDef)
+    × PullsMany IsWished first entries count before.tables before.position before.view wishes others other end left)
 
 -- the event once more; a message with the wishes that are left, where so many of its entries were taken
 abbrev pub IsAgain : World → ℕ → Event → Event → Type 0
@@ -80,6 +85,7 @@ IsAgain world count (Resend r) again = again ≡ Resend r
 IsAgain world count (AskPull r limit) again = again ≡ AskPull r limit
 IsAgain world count (AskCatch r limit) again = again ≡ AskCatch r limit
 IsAgain world count (Restart r) again = again ≡ Restart r
+IsAgain world count (AskWiden wider) again = again ≡ AskWiden wider
 
 -- by a step of this event the store would keep what the failed commit would have left, in this world
 pub record WouldStep (limit : ℕ) (world : World) (place : Place) (late : Late place) : Type 0 where
@@ -107,6 +113,7 @@ IsNotLost old (Resend r) = Unit {0}
 IsNotLost old (AskPull r limit) = Unit {0}
 IsNotLost old (AskCatch r limit) = Unit {0}
 IsNotLost old (Restart r) = Unit {0}
+IsNotLost old (AskWiden wider) = Unit {0}
 
 -- the store there was stopped and opened again: it holds what it keeps, alone; and what would have been sent never is
 pub record StopsAt (old new : Standing) (place : Place) : Type 0 where

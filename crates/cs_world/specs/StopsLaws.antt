@@ -49,11 +49,11 @@ abbrev pub FoundIsStep : Type 0
 FoundIsStep =
     (limit r : ℕ) (world : World) (before : Member) (old left : Contents) (event : Event)
     → IsMember world r before
-    → ShowsAt world.tables old before.position before.view
-    → WouldLeave world r before.position old left event
+    → ShowsAt before.tables old before.position before.view
+    → WouldLeave world r before.tables before.position old left event
     → (after : Member) × (sent : List Sent) × (outcome : Outcome)
     × Step limit world event outcome (turned (AtReplica r) world after sent)
-    × ShowsAt world.tables left after.position after.view
+    × ShowsAt after.tables left after.position after.view
 
 -- a commit to the store of a sound world's hub failed. What it may yet have left there shows the log that a step of its event makes
 abbrev pub FoundIsStepOfHub : Type 0
@@ -74,8 +74,8 @@ StopOfReplica =
     → limit < 2 ^ 32
     → IsSound limit world
     → IsMember world r before
-    → ShowsAt world.tables old before.position before.view
-    → (left ≡ old) ⊎ ((event : Event) × WouldLeave world r before.position old left event)
+    → ShowsAt before.tables old before.position before.view
+    → (left ≡ old) ⊎ ((event : Event) × WouldLeave world r before.tables before.position old left event)
     → Survives limit world (AtReplica r) left
 
 -- and of the hub's store

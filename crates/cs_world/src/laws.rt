@@ -1,7 +1,7 @@
 //! The laws of worlds, each the contract of a function that does nothing.
 
 ghost use Rattle.cs_replica.specs.Laws.{AnswerHasResult};
-ghost use Rattle.cs_world.specs.Laws.{AnswersFit, AskHasStep, CatchHasStep, CatchesMerge, DeliverHasStep, EditHasStep, EventsMerge, FirstIsSound, OneRun, OneStep, PullsMerge, PushHasStep, ResendHasStep, RestartHasStep, SoundHasHeadline, StepsAreSound, WishesPickOnce};
+ghost use Rattle.cs_world.specs.Laws.{AnswersFit, AskHasStep, CatchHasStep, CatchesMerge, DeliverHasStep, EditHasStep, EventsMerge, FirstIsSound, OneRun, OneStep, OrderHasStep, PullsMerge, PushHasStep, ResendHasStep, RestartHasStep, SoundHasHeadline, StepsAreSound, WishesPickOnce};
 ghost use Rattle.cs_world.specs.StopsLaws.{FoundIsStep, FoundIsStepOfHub, OpensAsLeft, RunWithStops, RunsWhole, StopOfHub, StopOfReplica};
 
 use cs_conflict::Picker;
@@ -28,10 +28,9 @@ pub fn steps_are_sound()
     cs_pending::position::laws::last_number();
     cs_store::log::laws::appended_is_log();
     cs_store::log::laws::longer_log();
-    cs_store::log::laws::front_is_log();
     cs_store::log::laws::one_body();
-    cs_store::log::laws::none_widens();
-    cs_store::log::laws::catalog_stays();
+    cs_store::log::laws::catalogs_are_tables();
+    cs_store::log::laws::catalog_next();
     cs_wire::laws::one_request();
     cs_wire::laws::one_told_answer();
     cs_wire::laws::told_are_read();
@@ -45,6 +44,7 @@ pub fn steps_are_sound()
     cs_replica::laws::flight_fits();
     cs_hub::catching::laws::caught_are_others();
     cs_hub::catching::laws::consolidated_leads();
+    cs_hub::judgement::laws::widen_is_entry();
 }
 
 /// What is sound has the headline.
@@ -52,7 +52,6 @@ pub fn sound_has_headline()
     ensures { SoundHasHeadline }
 {
     cs_change::laws::net_takes();
-    cs_store::log::laws::catalog_stays();
     cs_normal::laws::one_key_stands();
     cs_replica::laws::flight_fits();
     cs_replica::laws::equal_at_rest();
@@ -73,13 +72,15 @@ pub fn answers_fit()
     cs_normal::laws::normal_is_taken();
     cs_normalising::laws::normal_again();
     cs_store::log::laws::appended_is_log();
-    cs_store::log::laws::none_widens();
-    cs_store::log::laws::catalog_stays();
+    cs_store::log::laws::longer_log();
+    cs_store::log::laws::catalogs_are_tables();
+    cs_store::log::laws::catalog_next();
     cs_store::log::laws::most_bytes();
     cs_wire::laws::one_request();
     cs_wire::laws::one_told_answer();
     cs_wire::laws::told_are_read();
     cs_hub::catching::laws::caught_are_others();
+    cs_hub::judgement::laws::widen_is_entry();
 }
 
 /// In a sound world each entry that is pulled is a three-way merge. It merges the log's tables at the replica's version, its own rows, and
@@ -90,10 +91,9 @@ pub fn pulls_merge()
 {
     cs_normal::laws::normal_is_taken();
     cs_normalising::laws::normal_again();
-    cs_store::log::laws::front_is_log();
     cs_store::log::laws::one_body();
-    cs_store::log::laws::none_widens();
-    cs_store::log::laws::catalog_stays();
+    cs_store::log::laws::catalogs_are_tables();
+    cs_store::log::laws::catalog_next();
     cs_pending::laws::one_view();
     cs_exchange::taking::laws::one_contents();
     cs_exchange::pulling::laws::one_read();
@@ -160,6 +160,11 @@ pub fn ask_has_step()
     ensures catch { CatchHasStep }
 {}
 
+/// So has a wider table that is asked for.
+pub fn order_has_step()
+    ensures { OrderHasStep }
+{}
+
 /// So has a store that is read again.
 pub fn restart_has_step()
     ensures { RestartHasStep }
@@ -179,8 +184,10 @@ pub fn deliver_has_step()
     answers_fit();
     cs_conflict::laws::guarded_is_lawful();
     cs_hub::catching::laws::catch_has_answer();
+    cs_hub::judgement::laws::widen_answers();
     cs_hub::judgement::laws::push_has_answer();
-    cs_store::log::laws::catalog_stays();
+    cs_store::log::laws::catalogs_are_tables();
+    cs_store::log::laws::catalog_next();
     cs_normal::laws::normal_is_taken();
     cs_normalising::laws::normal_again();
     let wishes = Wishes::new(&[]);

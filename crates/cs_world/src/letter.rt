@@ -43,9 +43,11 @@ impl Posted {
     }
 }
 
-/// A message that was sent: a replica's request, or the bytes of the hub's answer to a replica.
+/// A message that was sent: a request, of a replica or of none, or the bytes of the hub's answer to it.
 #[derive(Drop)]
 pub(crate) enum Letter {
     Asks { replica: u32, request: Posted },
     Tells { replica: u32, answer: Vec<u8> },
+    Orders { request: Posted },
+    Replies { answer: Vec<u8> },
 }

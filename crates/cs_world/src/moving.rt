@@ -1,20 +1,20 @@
 //! The hub, the replicas and the messages, moved by events.
 
 ghost use Rattle.std.specs.Prelude.{◌≡◌, ◌<◌, ◌++◌, [], ◌∷◌, List, Some, IfOk, OnErr, length, vec_capacity, vec_len};
-ghost use Rattle.cs_world.specs.declared.event.Event.TheVariants.{AskCatch, AskPull, Deliver, MakePush, OnEdit, Resend, Restart};
+ghost use Rattle.cs_world.specs.declared.event.Event.TheVariants.{AskCatch, AskPull, AskWiden, Deliver, MakePush, OnEdit, Resend, Restart};
 ghost use Rattle.cs_world.specs.declared.outcome.Outcome.TheVariants as told;
 ghost use Rattle.cs_store.specs.declared.log.entry.TheConstants.{MAX_ENTRIES};
 ghost use Rattle.cs_world.specs.Fails.{AsksHub};
 ghost use Rattle.cs_world.specs.Moves.{Moves};
 
-use crate::event::Event;
+use crate::event::{Event, Wider};
 use crate::letter::{Letter, Posted};
 use crate::outcome::Outcome;
 use crate::turning::reload_replica;
 use cs_conflict::Wish;
 use cs_conflict::wish_list::Wishes;
 use cs_hub::Hub;
-use cs_replica::Replica;
+use cs_replica::{Replica, Told};
 use cs_store::RowStore;
 use cs_value::Edit;
 use cs_wire::{Answer, RequestBuf};
@@ -61,6 +61,7 @@ impl<S: RowStore> Core<S> {
             Event::Resend { replica } => self.resend(*replica),
             Event::AskPull { replica, limit } => self.ask_pull(*replica, *limit),
             Event::AskCatch { replica, limit } => self.ask_catch(*replica, *limit),
+            Event::AskWiden(wider) => self.ask_widen(wider),
             Event::Deliver { message, wishes } => self.deliver(*message, wishes.as_slice()),
             Event::Restart { replica } => self.restart(*replica),
         }
@@ -165,6 +166,18 @@ impl<S: RowStore> Core<S> {
         )
     }
 
+    fn ask_widen(&mut self, wider: &Wider) -> Outcome
+        ensures { Moves S.RowStore MAX_ENTRIES self.old (AskWiden wider.now) result self.new }
+    {
+        if self.letters.reserve(1).is_err() {
+            return Outcome::Memory;
+        }
+        match wider.request(self.alloc) {
+            Ok(request) => send(&mut self.letters, Letter::Orders { request }),
+            Err(_) => Outcome::Memory,
+        }
+    }
+
     fn restart(&mut self, which: u32) -> Outcome
         ensures { Moves S.RowStore MAX_ENTRIES self.old (Restart which) result self.new }
     {
@@ -182,8 +195,10 @@ impl<S: RowStore> Core<S> {
         ensures asks { AsksHub S.RowStore MAX_ENTRIES (Deliver which wishes.now) result self.old self.new }
     {
         crate::laws::answers_fit();
+        cs_hub::log_store::laws::one_log();
         cs_store::log::laws::most_entries();
         cs_wire::laws::one_told_answer();
+        let _tables = self.hub.tables();
         if self.letters.reserve(1).is_err() {
             return Outcome::Memory;
         }
@@ -199,6 +214,16 @@ impl<S: RowStore> Core<S> {
                 let replica = *replica;
                 send(&mut self.letters, Letter::Tells { replica, answer })
             }
+            Some(Letter::Orders { request }) => {
+                let Ok(bytes) = request.encode(self.alloc) else {
+                    return Outcome::Memory;
+                };
+                let Ok(answer) = self.hub.serve(bytes.as_slice()) else {
+                    return Outcome::Memory;
+                };
+                send(&mut self.letters, Letter::Replies { answer })
+            }
+            Some(Letter::Replies { answer: _ }) => Outcome::Heard(Told::Ignored),
             Some(Letter::Tells { replica, answer }) => {
                 // Over honest stores each answer of the hub can be read.
                 let Ok(answer) = Answer::decode(answer.as_slice()) else {

@@ -8,6 +8,7 @@ ghost use Rattle.cs_world.specs.Opened.{IsNewReplica, LeavesAlone};
 use crate::fault::WorldFault;
 use cs_hub::Hub;
 use cs_map_store::MapStore;
+use cs_opening::laws::tables_kept;
 use cs_replica::Replica;
 use cs_store::RowStore;
 use cs_value::{Catalog, Memory};
@@ -37,6 +38,7 @@ pub(crate) fn open_replica<S: RowStore + Drop>(
     requires small { number < 2 ^ 32 - 1 }
     ensures { IfOk result (IsNewReplica S.RowStore catalog.now number) }
 {
+    tables_kept();
     match Replica::open(alloc, store, catalog, number) {
         Ok(replica) => Ok(replica),
         Err((_, fault)) => Err(WorldFault::from(fault)),

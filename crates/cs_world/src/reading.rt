@@ -3,7 +3,7 @@
 ghost use Rattle.std.specs.Prelude.{◌≡◌, [], None, Some, Err, IfOk, length, slice_get};
 ghost use Rattle.std.specs.Option.{option_copied};
 ghost use Rattle.cs_store.specs.declared.log.entry.TheConstants.{MAX_ENTRIES};
-ghost use Rattle.cs_store.specs.log.Log.{state_of};
+ghost use Rattle.cs_store.specs.log.Log.{catalog_at, state_of};
 ghost use Rattle.cs_replica.specs.Holding.{Holding as Held};
 ghost use Rattle.cs_store.specs.declared.fault.StoreFault.TheVariants.{Device};
 ghost use Rattle.cs_world.specs.Fails.{CountsOn};
@@ -25,7 +25,7 @@ impl<S: RowStore> Core<S> {
         ensures reads { Reads S.RowStore MAX_ENTRIES self.old self.new }
         ensures left { KeepsLeft S.RowStore MAX_ENTRIES self.old self.new }
         ensures counts { CountsOn S.RowStore (result ≡ Err Device) self.old self.new }
-        ensures listed { AreHonest S.RowStore self.new → (world : Standing) → StandsAt S.RowStore MAX_ENTRIES self.old world → (member : Member) → IsMember world replica member → IfOk result (λ rows. AreRowsIn world.tables member.view.tables table rows.items) }
+        ensures listed { AreHonest S.RowStore self.new → (world : Standing) → StandsAt S.RowStore MAX_ENTRIES self.old world → (member : Member) → IsMember world replica member → IfOk result (λ rows. AreRowsIn member.tables member.view.tables table rows.items) }
         ensures none { slice_get self.old.replicas replica ≡ None → IfOk result (λ rows. rows.items ≡ []) }
     {
         let Some(one) = self.replicas.get_mut(replica) else {
@@ -42,7 +42,7 @@ impl<S: RowStore> Core<S> {
         ensures reads { Reads S.RowStore MAX_ENTRIES self.old self.new }
         ensures left { KeepsLeft S.RowStore MAX_ENTRIES self.old self.new }
         ensures counts { CountsOn S.RowStore (result ≡ Err Device) self.old self.new }
-        ensures listed { AreHonest S.RowStore self.new → (world : Standing) → StandsAt S.RowStore MAX_ENTRIES self.old world → IfOk result (λ rows. AreRowsIn world.tables (state_of world.log) table rows.items) }
+        ensures listed { AreHonest S.RowStore self.new → (world : Standing) → StandsAt S.RowStore MAX_ENTRIES self.old world → IfOk result (λ rows. AreRowsIn (catalog_at world.tables world.log (length world.log)) (state_of world.log) table rows.items) }
     {
         match self.hub.rows(table) {
             Ok(rows) => return Ok(rows),
@@ -120,7 +120,7 @@ impl<S: RowStore> World<S> {
         // Nothing has happened, and a failed device is told only where its count rose.
         ensures reads { Reads S.RowStore MAX_ENTRIES self.old self.new }
         ensures counts { CountsOn S.RowStore (result ≡ Err Device) self.old self.new }
-        ensures listed { AreHonest S.RowStore self.new → (world : Standing) → StandsAt S.RowStore MAX_ENTRIES self.old world → (member : Member) → IsMember world replica member → IfOk result (λ rows. AreRowsIn world.tables member.view.tables table rows.items) }
+        ensures listed { AreHonest S.RowStore self.new → (world : Standing) → StandsAt S.RowStore MAX_ENTRIES self.old world → (member : Member) → IsMember world replica member → IfOk result (λ rows. AreRowsIn member.tables member.view.tables table rows.items) }
         ensures none { slice_get self.old.replicas replica ≡ None → IfOk result (λ rows. rows.items ≡ []) }
     {
         self.core.rows(replica, table)
@@ -135,7 +135,7 @@ impl<S: RowStore> World<S> {
         // Nothing has happened, and a failed device is told only where its count rose.
         ensures reads { Reads S.RowStore MAX_ENTRIES self.old self.new }
         ensures counts { CountsOn S.RowStore (result ≡ Err Device) self.old self.new }
-        ensures listed { AreHonest S.RowStore self.new → (world : Standing) → StandsAt S.RowStore MAX_ENTRIES self.old world → IfOk result (λ rows. AreRowsIn world.tables (state_of world.log) table rows.items) }
+        ensures listed { AreHonest S.RowStore self.new → (world : Standing) → StandsAt S.RowStore MAX_ENTRIES self.old world → IfOk result (λ rows. AreRowsIn (catalog_at world.tables world.log (length world.log)) (state_of world.log) table rows.items) }
     {
         self.core.hub_rows(table)
     }

@@ -59,6 +59,7 @@ impl<S: RowStore + Drop> World<S> {
         ensures { IfOk result (IsNew S.RowStore MAX_ENTRIES catalog.now (length replicas.items)) }
     {
         crate::laws::first_is_sound();
+        cs_hub::judgement::laws::widen_is_entry();
         let _tables = catalog.tables();
         let mut opened = Vec::with_capacity(alloc, replicas.len())?;
         for store in replicas {

@@ -7,8 +7,10 @@ ghost use Rattle.cs_store.specs.Contents.{nothing};
 use cs_conflict::Kind;
 use cs_hub::appending::{AppendFault, append};
 use cs_hub::log_opening::open_log;
+use cs_hub::log_store::Catalogs;
 use cs_map_store::MapStore;
-use cs_store::log::{LogEntry, read_body};
+use cs_opening::OpenFault;
+use cs_store::log::{LogEntry, MAX_ENTRIES, read_body};
 use cs_store::{RowStore, StoreFault, Trip};
 use cs_store_cases::catalog;
 use cs_value::Catalog;
@@ -34,17 +36,25 @@ pub(crate) fn refusing(store: Store, passes: u64) -> Store {
 }
 
 /// The tables of a hub, and its store, which was laid out.
-pub(crate) fn opened(alloc: Global) -> Option<(Catalog, Store)> {
+pub(crate) fn opened(alloc: Global) -> Option<(Catalogs, Store)> {
     let catalog = catalog(alloc)?;
     let mut store = bare(alloc, u64::MAX);
     match open_log(alloc, &mut store, &catalog) {
-        Ok(0) => Some((catalog, store)),
-        _ => None,
+        Ok(catalogs) => Some((catalogs, store)),
+        Err(_) => None,
     }
 }
 
-/// What an entry does, as it is stored: a byte for its kind, and behind it the change. These are the INSERT of (1, 'v1'), its UPDATE to 'v2',
-/// the DELETE of (1, 'v2'), and that of (2, 'x'). One more has no change.
+/// How many entries the log of a store has as it is opened.
+pub(crate) fn opens(alloc: Global, store: &mut Store, catalog: &Catalog) -> Result<u32, OpenFault> {
+    match open_log(alloc, store, catalog) {
+        Ok(catalogs) => Ok(catalogs.newest()),
+        Err(fault) => Err(fault),
+    }
+}
+
+/// What an entry does, as it is stored: a byte for its kind, and behind it the change. These are the INSERT of (1, 'v1'), its UPDATE to
+/// 'v2', the DELETE of (1, 'v2'), and that of (2, 'x'). One more has no change.
 pub(crate) const INSERT: &[u8] = &[
     0, 0x54, 2, 1, 0, 0x74, 0x31, 0, 18, 0, 1, 0, 0, 0, 0, 0, 0, 0, 1, 3, 2, 0x76, 0x31,
 ];
@@ -99,11 +109,14 @@ pub(crate) enum Told {
 pub(crate) fn appends(
     alloc: Global,
     store: &mut Store,
-    catalog: &Catalog,
+    catalogs: &mut Catalogs,
     push: Push,
 ) -> Option<Told> {
-    let entry = entry_of(alloc, catalog, push)?;
-    Some(match append(alloc, store, catalog, &entry) {
+    if catalogs.newest() >= MAX_ENTRIES {
+        return None;
+    }
+    let entry = entry_of(alloc, catalogs.present(), push)?;
+    Some(match append(alloc, store, catalogs, &entry) {
         Ok(()) => Told::Done,
         Err(AppendFault::Conflict(conflict)) => Told::Conflict(conflict.as_conflict().kind),
         Err(AppendFault::Memory) => Told::Memory,
@@ -112,10 +125,10 @@ pub(crate) fn appends(
 }
 
 /// The tables of a hub, and its store, to which the INSERT was appended.
-pub(crate) fn filled(alloc: Global) -> Option<(Catalog, Store)> {
-    let (catalog, mut store) = opened(alloc)?;
-    match appends(alloc, &mut store, &catalog, (1, INSERT)) {
-        Some(Told::Done) => Some((catalog, store)),
+pub(crate) fn filled(alloc: Global) -> Option<(Catalogs, Store)> {
+    let (mut catalogs, mut store) = opened(alloc)?;
+    match appends(alloc, &mut store, &mut catalogs, (1, INSERT)) {
+        Some(Told::Done) => Some((catalogs, store)),
         _ => None,
     }
 }

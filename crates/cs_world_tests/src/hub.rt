@@ -1,8 +1,6 @@
 //! A hub by the calls that no line makes: requests that are judged, entries that are followed, and changes that are handed over. Besides,
 //! what it shows, and a store that fails. The answers were written by hand.
 
-ghost use Rattle.std.specs.Prelude.{◌≡◌};
-
 use crate::given::{DELETE_2, INSERT, KEY, ROW_1, Store, bare, refusing};
 use cs_changeset::read;
 use cs_conflict::Kind;
@@ -13,7 +11,7 @@ use cs_pending::rows::RowAtKey;
 use cs_store::RowStore;
 use cs_store::log::MAX_CHANGESET;
 use cs_store_cases::catalog;
-use cs_value::{Catalog, Memory};
+use cs_value::Memory;
 use cs_wire::PushHead;
 use std::alloc::Global;
 
@@ -200,24 +198,17 @@ fn what_the_device_refuses_changes_nothing(rt: HostRuntime) {
 }
 
 /// What becomes of the changes of a changeset, handed over as the first push of replica 7: its version, or the kind of a conflict.
-fn takes_changes(
-    alloc: Global,
-    hub: &mut Hub<Store>,
-    catalog: &Catalog,
-    bytes: &[u8],
-) -> Option<Result<u64, Kind>>
-    requires tables { hub.old.catalog ≡ catalog.now }
-{
+fn takes_changes(alloc: Global, hub: &mut Hub<Store>, bytes: &[u8]) -> Option<Result<u64, Kind>> {
     if bytes.len() as u64 > MAX_CHANGESET {
         return None;
     }
     let changeset = read(alloc, bytes).ok()?;
-    let changes = normalise(alloc, catalog, &changeset).ok()?;
     let head = PushHead {
         origin: 7,
         number: 1,
         base: 0,
     };
+    let changes = normalise(alloc, hub.judging(head.base), &changeset).ok()?;
     match hub.push(head, changes) {
         Ok(Pushed::Accepted(version)) => Some(Ok(version)),
         Err(HubFault::Conflict(conflict)) => Some(Err(conflict.as_conflict().kind)),
@@ -230,7 +221,7 @@ fn is_handed_over(alloc: Global, bytes: &[u8]) -> Option<Result<u64, Kind>> {
     let catalog = catalog(alloc)?;
     let store = bare(alloc, u64::MAX);
     match Hub::open(alloc, store, &catalog) {
-        Ok(mut hub) => takes_changes(alloc, &mut hub, &catalog, bytes),
+        Ok(mut hub) => takes_changes(alloc, &mut hub, bytes),
         Err(_) => None,
     }
 }

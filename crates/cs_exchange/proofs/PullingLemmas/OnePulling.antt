@@ -1,11 +1,13 @@
 -- An entry is pulled once, or has one fault.
-use Rattle.std.proofs.Common.{◌≡◌, ◌<◌, ◌+◌, ℕ, List, Option, refl, sym, ap, ◌∙◌, arith, inl, inr}
-use Rattle.std.specs.FinMap.{len}
+use Rattle.std.proofs.Common.{◌≡◌, ◌<◌, ℕ, List, Option, refl, sym, ap, subst, ◌∙◌, arith, inl, inr}
+use Rattle.std.specs.Prelude.{Contains}
 use Rattle.cs_value.specs.Catalog.{AreTables}
 use Rattle.cs_value.specs.declared.catalog.TableDef.{TableDef}
 use Rattle.cs_normal.specs.Normal.{IsNormalChangeset}
 use Rattle.cs_normal.specs.declared.normal.TableChanges.{TableChanges}
-use Rattle.cs_store.specs.log.Entry.{WidensNone, changes_of_body, entry_changes}
+use Rattle.cs_normal.specs.State.{AreSame, IsDefinedOn}
+use Rattle.cs_store.specs.log.Entry.{MayWiden, WidensNone, changes_of_body, entry_changes}
+use Rattle.cs_store.specs.log.Log.{catalog_after}
 use Rattle.cs_store.specs.declared.log.body.Body.{Body}
 use Rattle.cs_store.specs.declared.log.body.Body.TheVariants.{Changes, Widen}
 use Rattle.cs_store.specs.declared.log.entry.LogEntry.{LogEntry}
@@ -15,60 +17,54 @@ use Rattle.cs_conflict.specs.declared.conflict.Conflict.{Conflict}
 use Rattle.cs_conflict.specs.declared.wish.Wish.{Wish}
 use Rattle.cs_pending.specs.Laws.{OneView}
 use Rattle.cs_pending.specs.View.{View}
-use Rattle.cs_pending.specs.position.Shows.{ShowsAt}
+use Rattle.cs_pending.specs.position.Shows.{ShowsAt, base}
 use Rattle.cs_pending.specs.declared.position.position.Position.{Position}
-use Rattle.cs_exchange.specs.taking.Laws.{BadIsNeither, NoStopWhereTaken, OneContents, OneStopTaking, OneTaken, OneTakenIn, PicksOnce}
-use Rattle.cs_exchange.specs.taking.Takes.{IsTaken, IsTakenIn, StopsAt, StopsTaking, taken}
+use Rattle.cs_exchange.specs.taking.Laws.{BadIsNeither, NoStopWhereTaken, OneContents, OneStopTaking, OneTaken, OneWidened, PicksOnce}
+use Rattle.cs_exchange.specs.taking.Takes.{StopsAt, StopsTaking, taken}
 use Rattle.cs_exchange.specs.pulling.Laws.{IsOfEntry, NoPullFaultWherePulled, OnePull, OnePullFault, OnePullIn}
-use Rattle.cs_exchange.specs.pulling.Pulls.{IsBad, IsOwn, IsPullFault, IsPulledIn, PullsOne, StopsPull}
+use Rattle.cs_exchange.specs.pulling.Pulls.{IsBad, IsOwn, IsPullFault, IsPulledBody, PullsOne, StopsPull}
 use Rattle.cs_exchange.specs.declared.pulling.fault.PullFault.{PullFault}
 use Rattle.cs_exchange.specs.declared.pulling.fault.PullFault.TheVariants.{Memory, Behind, Gap, BadEntry, Stopped, Device}
-use Rattle.cs_exchange.proofs.PullingLemmas.Bodies.{may_widen}
+use Rattle.cs_exchange.proofs.PullingLemmas.Bodies.{may_widen, no_changes_defined, own_catalog}
 
 -- ---- pulled once
 
-module _ {P : Type 0} (picks : P → Clash → Wish → P → Type 0) where
-  pub one_pull : OneView → OneTaken picks → OnePull picks
-  one_pull one_view law tables contents position entry before seen some other p q r are normal once b s (room, inl (own, same, asked)) (more, inl (mine, alike, still)) =
-      let views = one_view tables contents before seen b.rows s.rows in (
+module _ (one_view : OneView) (widened : OneWidened) {P : Type 0} (picks : P → Clash → Wish → P → Type 0) (law : OneTaken picks) (tables : List TableDef) (contents : Contents) (position : Position) (before seen some other : View) (p q r : P)
+    (are : AreTables tables) (once : PicksOnce picks) (b : ShowsAt tables contents position before) (s : ShowsAt tables contents position seen) where
+  -- one view, by the catalog that what is done leaves, and one state of the picker
+  abbrev IsOneBy : List TableDef → Type 0
+  IsOneBy others =
+      AreSame some.tables other.tables × ((table : TableDef) (key : List ℕ) → Contains others table → other.pending table.name key ≡ some.pending table.name key) × (q ≡ r)
+
+  one_body : (body : Body) → IsNormalChangeset (changes_of_body body) → IsPulledBody picks tables position.flight body before some p q → IsPulledBody picks tables position.flight body seen other p r → IsOneBy (catalog_after tables body)
+  one_body (Changes changes) normal is so = law tables contents position changes before seen some other p q r are normal once b s is so
+  one_body (Widen table width) normal is so =
+      let one = widened tables contents position table width before seen some other are b s is.0 so.0 in (one.0, one.1, is.1 ∙ sym so.1)
+
+  one_own : (entry : LogEntry) → IsOwn position entry → some ≡ before → q ≡ p → other ≡ seen → r ≡ p → IsOneBy (catalog_after tables entry.body)
+  one_own entry own same asked alike still =
+      let views = one_view tables contents before seen b.rows s.rows in
+      subst IsOneBy (sym (own_catalog tables position entry own)) (
         λ name key. ap (λ (v : View). v.tables name key) alike ∙ views.0 name key ∙ sym (ap (λ (v : View). v.tables name key) same),
         λ table key inside. ap (λ (v : View). v.pending table.name key) alike ∙ views.1 table key inside ∙ sym (ap (λ (v : View). v.pending table.name key) same),
         asked ∙ sym still,
       )
-  one_pull one_view law tables contents position entry before seen some other p q r are normal once b s (room, inl (own, same, asked)) (more, inr (others, plain, takes)) = absurd (others own)
-  one_pull one_view law tables contents position entry before seen some other p q r are normal once b s (room, inr (others, plain, takes)) (more, inl (own, same, asked)) = absurd (others own)
-  one_pull one_view law tables contents position entry before seen some other p q r are normal once b s (room, inr (others, plain, takes)) (more, inr (away, still, took)) =
-      law tables contents position (entry_changes entry) before seen some other p q r are normal once b s takes took
 
-  -- another's entry that is pulled is taken
-  others_taken : (tables : List TableDef) (position : Position) (entry : LogEntry) (before after : View) (p q : P) → (IsOwn position entry → ⊥) → PullsOne picks tables position entry before p after q
-      → IsTaken picks tables position.flight (entry_changes entry) before after p q
-  others_taken tables position entry before after p q others (room, inl (own, same, asked)) = absurd (others own)
-  others_taken tables position entry before after p q others (room, inr (away, plain, takes)) = takes
+module _ {P : Type 0} (picks : P → Clash → Wish → P → Type 0) where
+  pub one_pull : OneView → OneWidened → OneTaken picks → OnePull picks
+  one_pull one_view widened law tables contents position entry before seen some other p q r are normal once b s (room, inl (own, same, asked)) (more, inl (mine, alike, still)) =
+      one_own one_view widened picks law tables contents position before seen some other p q r are once b s entry own same asked alike still
+  one_pull one_view widened law tables contents position entry before seen some other p q r are normal once b s (room, inl (own, same, asked)) (more, inr (others, takes)) = absurd (others own)
+  one_pull one_view widened law tables contents position entry before seen some other p q r are normal once b s (room, inr (others, takes)) (more, inl (own, same, asked)) = absurd (others own)
+  one_pull one_view widened law tables contents position entry before seen some other p q r are normal once b s (room, inr (others, takes)) (more, inr (away, took)) =
+      one_body one_view widened picks law tables contents position before seen some other p q r are once b s entry.body normal takes took
 
-  taken_in : (tables : List TableDef) (position : Position) (entry : LogEntry) (old new : Contents) (p q : P) → (IsOwn position entry → ⊥) → IsPulledIn picks tables position entry p q old new
-      → IsTakenIn picks tables position (entry_changes entry) p q old new
-  taken_in tables position entry old new p q others is before shows =
-      let one = is before shows in (one.0, one.1, others_taken tables position entry before one.0 p q others one.2)
-
-  module _ (law : OneTakenIn picks) (contents : OneContents) (tables : List TableDef) (position : Position) (entry : LogEntry) (old some other : Contents) (p q r : P) (are : AreTables tables) (normal : IsNormalChangeset (entry_changes entry))
-      (once : PicksOnce picks) (before : View) (shows : ShowsAt tables old position before) (s : IsPulledIn picks tables position entry p q old some) (o : IsPulledIn picks tables position entry p r old other) where
-    one_left : (after end : View) → ShowsAt tables some (taken position (len some.pending)) after → ShowsAt tables other (taken position (len other.pending)) end
-        → PullsOne picks tables position entry before p after q → PullsOne picks tables position entry before p end r → (some ≡ other) × (q ≡ r)
-    one_left after end a e (room, inl (own, same, asked)) (more, inl (mine, alike, still)) = (
-      contents tables (taken position 0) some other after end a e (λ name key. ap (λ (v : View). v.tables name key) (alike ∙ sym same)) (λ table key inside. ap (λ (v : View). v.pending table.name key) (alike ∙ sym same)),
-      asked ∙ sym still,
-    )
-    one_left after end a e (room, inl (own, same, asked)) (more, inr (others, plain, takes)) = absurd (others own)
-    one_left after end a e (room, inr (others, plain, takes)) (more, inl (own, same, asked)) = absurd (others own)
-    one_left after end a e (room, inr (others, plain, takes)) (more, inr (away, still, took)) =
-        law tables position (position.version + 1) (entry_changes entry) old some other p q r are normal once (before, shows) (taken_in tables position entry old some p q others s) (taken_in tables position entry old other p r others o)
-
-  pub one_pull_in : OneTakenIn picks → OneContents → OnePullIn picks
-  one_pull_in law contents tables position entry old some other p q r are normal once (before, shows) s o =
+  pub one_pull_in : OneView → OneWidened → OneTaken picks → OneContents → OnePullIn picks
+  one_pull_in one_view widened law contents tables position entry old some other p q r are normal once (before, shows) s o =
       let one = s before shows in
       let two = o before shows in
-      one_left law contents tables position entry old some other p q r are normal once before shows s o one.0 two.0 one.1 two.1 one.2 two.2
+      let both = one_pull one_view widened law tables old position entry before before one.0 two.0 p q r are normal once shows shows one.2 two.2 in
+      (contents (catalog_after tables entry.body) (taken position 0) some other one.0 two.0 one.1 two.1 both.0 both.1, both.2)
 
 -- ---- one fault
 
@@ -134,15 +130,26 @@ one_pull_fault picks law tables position index entry view Device other p q r onc
 
 -- ---- none where it is pulled
 
+module _ {P : Type 0} (picks : P → Clash → Wish → P → Type 0) (bad : BadIsNeither picks) (stop : NoStopWhereTaken picks) (tables : List TableDef) (position : Position) (before after : View) (p q r : P) where
+  -- what is taken is defined on the log's rows, or may widen its table so
+  good_body : (body : Body) → IsPulledBody picks tables position.flight body before after p q → (IsDefinedOn tables (changes_of_body body) (base position.flight before) × MayWiden tables body → ⊥) → ⊥
+  good_body (Changes changes) is wrong = (bad tables position.flight changes before p q (λ defined. wrong (defined, tt))).0 after is
+  good_body (Widen table width) is wrong = wrong (no_changes_defined tables (base position.flight before), is.0.may)
+
+  -- the picker doesn't stop at it
+  goes_on : (body : Body) (conflict : Conflict) → PicksOnce picks → IsPulledBody picks tables position.flight body before after p q → StopsTaking picks tables position.flight (changes_of_body body) before p conflict r → ⊥
+  goes_on (Changes changes) conflict once is stops = stop tables position.flight changes before after p q r conflict once is stops
+  goes_on (Widen table width) conflict once is stops = plain_stop picks tables position.flight (Widen table width) before p conflict r stops
+
 module _ {P : Type 0} (picks : P → Clash → Wish → P → Type 0) (bad : BadIsNeither picks) (stop : NoStopWhereTaken picks) (tables : List TableDef) (position : Position) (entry : LogEntry) (before after : View) (p q r : P) where
   pub bad_or_pull : IsBad tables position entry before → PullsOne picks tables position entry before p after q → ⊥
   bad_or_pull (inl last) (room, how) = absurd (omega (arith, last, room))
   bad_or_pull (inr (others, undefined)) (room, inl (own, same, asked)) = others own
-  bad_or_pull (inr (others, undefined)) (room, inr (away, plain, takes)) = (bad tables position.flight (entry_changes entry) before p q (λ defined. undefined (defined, may_widen tables entry.body plain))).0 after takes
+  bad_or_pull (inr (others, undefined)) (room, inr (away, takes)) = good_body picks bad stop tables position before after p q r entry.body takes undefined
 
   pub stop_or_pull : (conflict : Conflict) → PicksOnce picks → StopsPull picks tables position entry before p conflict r → PullsOne picks tables position entry before p after q → ⊥
   stop_or_pull conflict once stops (room, inl (own, same, asked)) = stops.others own
-  stop_or_pull conflict once stops (room, inr (away, plain, takes)) = stop tables position.flight (entry_changes entry) before after p q r conflict once takes stops.stops
+  stop_or_pull conflict once stops (room, inr (away, takes)) = goes_on picks bad stop tables position before after p q r entry.body conflict once takes stops.stops
 
 pub no_fault : {P : Type 0} (picks : P → Clash → Wish → P → Type 0) → BadIsNeither picks → NoStopWhereTaken picks → NoPullFaultWherePulled picks
 no_fault picks bad stop tables position entry before after Memory p q r once of pulls wrong = absurd (of.0 refl)

@@ -1,5 +1,5 @@
 -- What the commit of a taken entry leaves of what a store shows.
-use Rattle.std.proofs.Common.{◌≡◌, ◌+◌, ℕ, Bool, not, cond, List, [], ◌∷◌, Option, None, fold, map, refl, sym, ap, subst, ◌∙◌, arith}
+use Rattle.std.proofs.Common.{◌≡◌, ℕ, Bool, not, cond, List, [], ◌∷◌, Option, None, fold, map, refl, sym, ap, subst, ◌∙◌, arith}
 use Rattle.std.specs.FinMap.{len}
 use Rattle.cs_change.specs.Net.{net}
 use Rattle.cs_normal.specs.State.{IsStateOf, MayStandAt, State}
@@ -30,11 +30,11 @@ use Rattle.cs_value.specs.declared.catalog.TableDef.{TableDef}
 
 -- ---- values, by the parts of their edits
 
-abbrev parts_after : List ValuePart → MetaName → Option (List ℕ) → Option (List ℕ)
+abbrev pub parts_after : List ValuePart → MetaName → Option (List ℕ) → Option (List ℕ)
 parts_after [] name value = value
 parts_after (part ∷ parts) name value = parts_after parts name (cond (same_bytes (name_text name) (name_text part.0)) part.1 value)
 
-by_parts : (edits : List MetaEdit) (name : MetaName) (value : Option (List ℕ)) → value_after edits name value ≡ parts_after (map value_part edits) name value
+pub by_parts : (edits : List MetaEdit) (name : MetaName) (value : Option (List ℕ)) → value_after edits name value ≡ parts_after (map value_part edits) name value
 by_parts [] name value = refl
 by_parts (edit ∷ edits) name value = by_parts edits name (cond (same_bytes (name_text name) (name_text edit.name)) (optional_bytes edit.value) value)
 
@@ -58,7 +58,7 @@ sound_nothing tables rows is = record {
   net_of = λ t k among. sym (ap (λ (b : Place). net t.key_marks b (rows t.name k)) (undo_none (rows t.name k)) ∙ net_self t.key_marks (rows t.name k));
 }
 
-none_under_way : (tables : List TableDef) (view : View) → IsStateOf tables (middle view) → IsUnderWay tables None view
+pub none_under_way : (tables : List TableDef) (view : View) → IsStateOf tables (middle view) → IsUnderWay tables None view
 none_under_way tables view is = record {
   fits = tt;
   normal = tt;

@@ -85,7 +85,7 @@ module _ (tables : List TableDef) (are : AreTables tables) (one : OnePlaceOfName
 
 -- ---- values
 
-get_value : (meta : Meta) (name q : List ℕ) (value : Option (List ℕ)) → get (with_meta meta name value) q ≡ cond (eq_by_cmp by_bytes q name) value (get meta q)
+pub get_value : (meta : Meta) (name q : List ℕ) (value : Option (List ℕ)) → get (with_meta meta name value) q ≡ cond (eq_by_cmp by_bytes q name) value (get meta q)
 get_value meta name q None = get-remove nat_list_cmp_total meta name q
 get_value meta name q (Some value) = get-insert nat_list_cmp_total meta name value q
 
@@ -100,7 +100,7 @@ value_next version meta q =
     get_value (with_meta meta (name_text Version) (Some version)) (name_text Flight) q None
     ∙ ap (λ (o : Option (List ℕ)). cond (eq_by_cmp by_bytes q (name_text Flight)) None o) (get_value meta (name_text Version) q (Some version))
 
-name_or : (text : List ℕ) (name : MetaName) → (eq_by_cmp by_bytes text (name_text name) ≡ false → IsName text) → IsName text
+pub name_or : (text : List ℕ) (name : MetaName) → (eq_by_cmp by_bytes text (name_text name) ≡ false → IsName text) → IsName text
 name_or text name other = by_test (eq_by_cmp by_bytes text (name_text name)) _ (λ e. (name, key_is text (name_text name) e)) other
 
 pub next_names : (version : List ℕ) (meta : Meta) → ((name value : List ℕ) → get meta name ≡ Some value → IsName name) → (name value : List ℕ) → get (next_meta version meta) name ≡ Some value → IsName name

@@ -5,9 +5,10 @@ use Rattle.cs_varint.specs.Bytes.{AreBytes}
 use Rattle.cs_value.specs.Catalog.{AreTables}
 use Rattle.cs_value.specs.declared.catalog.TableDef.{TableDef}
 use Rattle.cs_normal.specs.Normal.{IsNormalChangeset}
-use Rattle.cs_normal.specs.State.{AreSame, IsApplied}
+use Rattle.cs_normal.specs.State.{AreSame}
 use Rattle.cs_normal.specs.declared.normal.TableChanges.{TableChanges}
 use Rattle.cs_store.specs.log.Entry.{entry_changes}
+use Rattle.cs_store.specs.log.Log.{IsMade, catalog_after}
 use Rattle.cs_store.specs.declared.log.entry.LogEntry.{LogEntry}
 use Rattle.cs_store.specs.Contents.{Contents}
 use Rattle.cs_conflict.specs.declared.clash.Clash.{Clash}
@@ -69,7 +70,7 @@ PulledLeads {P} picks =
     → AreTables tables
     → ShowsAt tables contents position before
     → PullsOne picks tables position entry before p after q
-    → IsApplied tables (entry_changes entry) (base position.flight before) (base None after)
+    → IsMade tables entry.body (base position.flight before) (base None after)
 
 -- a fault that says something of the entry
 abbrev pub IsOfEntry : PullFault → Type 0
@@ -84,7 +85,7 @@ IsOfList (Err (list.BadEntry count)) = Unit {0}
 
 module _ {P : Type 0} (picks : P → Clash → Wish → P → Type 0) where
   -- by a picker that answers each clash once, an entry that is pulled from what one store shows leaves one state of the picker. It
-  -- leaves one view at the places of the tables
+  -- leaves one view at the places of the tables that the catalog then has
   abbrev pub OnePull : Type 0
   OnePull =
       (tables : List TableDef) (contents : Contents) (position : Position) (entry : LogEntry) (before seen some other : View) (p q r : P)
@@ -96,7 +97,7 @@ module _ {P : Type 0} (picks : P → Clash → Wish → P → Type 0) where
       → PullsOne picks tables position entry before p some q
       → PullsOne picks tables position entry seen p other r
       → AreSame some.tables other.tables
-      × ((table : TableDef) (key : List ℕ) → Contains tables table → other.pending table.name key ≡ some.pending table.name key)
+      × ((table : TableDef) (key : List ℕ) → Contains (catalog_after tables entry.body) table → other.pending table.name key ≡ some.pending table.name key)
       × (q ≡ r)
 
   -- and so a store that shows a replica holds one thing after it
@@ -210,11 +211,11 @@ module _ {P : Type 0} (picks : P → Clash → Wish → P → Type 0) where
       → (result : Result Pulled AnswerFault) × (other : Position) × (new : Contents) × (q : P) × IsOfList result
       × TakesTold picks tables next bytes result position before p other new q
 
-  -- by a picker that answers each clash once, a list has one result. It leaves one position, one thing in the store, and one state of
-  -- the picker, whichever view of the store is meant
+  -- by a picker that answers each clash once, a list has one result. It leaves one catalog, one position, one thing in the store, and
+  -- one state of the picker, whichever view of the store is meant
   abbrev pub OneList : Type 0
   OneList =
-      (tables : List TableDef) (first : ℕ) (entries : List ToldEntry) (old new last : Contents) (position here there : Position) (before seen : View)
+      (tables wide its : List TableDef) (first : ℕ) (entries : List ToldEntry) (old new last : Contents) (position here there : Position) (before seen : View)
       (some other : Result Pulled AnswerFault) (p q r : P)
       → AreTables tables
       → PicksOnce picks
@@ -222,9 +223,9 @@ module _ {P : Type 0} (picks : P → Clash → Wish → P → Type 0) where
       → ShowsAt tables old position seen
       → IsOfList some
       → IsOfList other
-      → PullsList picks tables first entries some position before p here new q
-      → PullsList picks tables first entries other position seen p there last r
-      → (some ≡ other) × (here ≡ there) × (new ≡ last) × (q ≡ r)
+      → PullsList picks first entries some tables position before p wide here new q
+      → PullsList picks first entries other tables position seen p its there last r
+      → (some ≡ other) × (wide ≡ its) × (here ≡ there) × (new ≡ last) × (q ≡ r)
 
   -- and there is one: a list of entries in bytes has a result, and there is a store that holds what is left
   abbrev pub ListHasResult : (P → Type 0) → Type 0
@@ -236,5 +237,5 @@ module _ {P : Type 0} (picks : P → Clash → Wish → P → Type 0) where
       → ShowsAt tables old position before
       → AnswersLawfully picks is_ready
       → is_ready p
-      → (result : Result Pulled AnswerFault) × (other : Position) × (new : Contents) × (q : P) × IsOfList result
-      × PullsList picks tables first entries result position before p other new q
+      → (result : Result Pulled AnswerFault) × (others : List TableDef) × (other : Position) × (new : Contents) × (q : P) × IsOfList result
+      × PullsList picks first entries result tables position before p others other new q

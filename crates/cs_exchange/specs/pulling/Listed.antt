@@ -1,6 +1,7 @@
 -- How a replica takes the entries of an answer, one after another.
 use Rattle.std.specs.Prelude.{◌≡◌, ◌+◌, ℕ, zero, suc, List, slice_get, Some, Result, Ok, Err}
 use Rattle.cs_value.specs.declared.catalog.TableDef.{TableDef}
+use Rattle.cs_store.specs.log.Log.{catalog_after}
 use Rattle.cs_store.specs.declared.log.entry.LogEntry.{LogEntry}
 use Rattle.cs_store.specs.Contents.{Contents}
 use Rattle.cs_conflict.specs.declared.clash.Clash.{Clash}
@@ -32,24 +33,24 @@ count_of (Err (fault.Memory count)) = count
 count_of (Err (fault.Device count)) = count
 count_of (Err (fault.BadEntry count)) = count
 
-module _ {P : Type 0} (picks : P → Clash → Wish → P → Type 0) (tables : List TableDef) (first : ℕ) (entries : List ToldEntry) where
+module _ {P : Type 0} (picks : P → Clash → Wish → P → Type 0) (first : ℕ) (entries : List ToldEntry) where
   -- so many entries are pulled one after another, each the one that the list tells at the version then. What each leaves a store
-  -- shows behind it
-  unfoldable pub PullsMany : ℕ → Position → View → P → Position → View → P → Type 0
-  PullsMany zero position view p other end q = (other ≡ position) × (end ≡ view) × (q ≡ p)
-  PullsMany (suc count) position view p other end q =
+  -- shows behind it, by the catalog that it leaves. `others` is the catalog behind them all
+  unfoldable pub PullsMany : ℕ → List TableDef → Position → View → P → List TableDef → Position → View → P → Type 0
+  PullsMany zero tables position view p others other end q = (others ≡ tables) × (other ≡ position) × (end ≡ view) × (q ≡ p)
+  PullsMany (suc count) tables position view p others other end q =
       (told : ToldEntry) × (entry : LogEntry) × (pending : ℕ) × (left : Contents) × (next : View) × (between : P)
       × IsToldAt first entries position.version told × IsReadAs tables told entry
       × PullsOne picks tables position entry view p next between
-      × ShowsAt tables left (taken position pending) next
-      × PullsMany count (taken position pending) next between other end q
+      × ShowsAt (catalog_after tables entry.body) left (taken position pending) next
+      × PullsMany count (catalog_after tables entry.body) (taken position pending) next between others other end q
 
   -- behind them the list tells no entry at the version
   abbrev pub EndsThere : Position → Type 0
   EndsThere position = (told : ToldEntry) → IsToldAt first entries position.version told → ⊥
 
   -- or the picker stops at the one that it tells
-  pub record EndsStopped (position : Position) (view : View) (p q : P) : Type 0 where
+  pub record EndsStopped (tables : List TableDef) (position : Position) (view : View) (p q : P) : Type 0 where
     pub told : ToldEntry
     pub entry : LogEntry
     pub conflict : Conflict
@@ -58,41 +59,42 @@ module _ {P : Type 0} (picks : P → Clash → Wish → P → Type 0) (tables : 
     pub stops : StopsPull picks tables position entry view p conflict q
 
   -- or that one can't be read, or is bad
-  pub record EndsBad (position : Position) (view : View) : Type 0 where
+  pub record EndsBad (tables : List TableDef) (position : Position) (view : View) : Type 0 where
     pub told : ToldEntry
     pub there : IsToldAt first entries position.version told
     pub bad : (entry : LogEntry) → IsReadAs tables told entry → IsBad tables position entry view
 
   -- how it ended behind those that were pulled
-  abbrev pub Ends : Result Pulled AnswerFault → Position → View → P → P → Type 0
-  Ends (Ok (Taken count)) position view p q = EndsThere position × (q ≡ p)
-  Ends (Ok (Stopped count)) position view p q = EndsStopped position view p q
-  Ends (Err (fault.Memory count)) position view p q = Unit {0}
-  Ends (Err (fault.Device count)) position view p q = Unit {0}
-  Ends (Err (fault.BadEntry count)) position view p q = EndsBad position view × (q ≡ p)
+  abbrev pub Ends : Result Pulled AnswerFault → List TableDef → Position → View → P → P → Type 0
+  Ends (Ok (Taken count)) tables position view p q = EndsThere position × (q ≡ p)
+  Ends (Ok (Stopped count)) tables position view p q = EndsStopped tables position view p q
+  Ends (Err (fault.Memory count)) tables position view p q = Unit {0}
+  Ends (Err (fault.Device count)) tables position view p q = Unit {0}
+  Ends (Err (fault.BadEntry count)) tables position view p q = EndsBad tables position view × (q ≡ p)
 
   -- what became of a list: so many of its entries were pulled, the store shows the replica behind them, and there it ended
-  abbrev pub PullsList : Result Pulled AnswerFault → Position → View → P → Position → Contents → P → Type 0
-  PullsList result position before p other new q =
-      (end : View) × (between : P) × PullsMany (count_of result) position before p other end between
-      × ShowsAt tables new other end × Ends result other end between q
+  abbrev pub PullsList : Result Pulled AnswerFault → List TableDef → Position → View → P → List TableDef → Position → Contents → P → Type 0
+  PullsList result tables position before p others other new q =
+      (end : View) × (between : P) × PullsMany (count_of result) tables position before p others other end between
+      × ShowsAt others new other end × Ends result others other end between q
 
   -- contents in which one entry more was pulled
-  abbrev pub IsOneMoreIn : Position → Contents → P → Contents → Type 0
-  IsOneMoreIn position now p left =
+  abbrev pub IsOneMoreIn : List TableDef → Position → Contents → P → Contents → Type 0
+  IsOneMoreIn tables position now p left =
       (view : View) → ShowsAt tables now position view
-      → (other : Position) × (end : View) × (q : P) × PullsMany 1 position view p other end q × ShowsAt tables left other end
+      → (others : List TableDef) × (other : Position) × (end : View) × (q : P)
+      × PullsMany 1 tables position view p others other end q × ShowsAt others left other end
 
   -- contents that one commit more would have left
-  abbrev pub IsNextOf : Position → Contents → Contents → Type 0
-  IsNextOf position now left = (p : P) × IsOneMoreIn position now p left
+  abbrev pub IsNextOf : List TableDef → Position → Contents → Contents → Type 0
+  IsNextOf tables position now left = (p : P) × IsOneMoreIn tables position now p left
 
   -- contents that stood after one of the commits: some of the entries were pulled, but for the count of what is pending
-  abbrev pub IsAmong : Position → Contents → P → Contents → Type 0
-  IsAmong position old p left =
+  abbrev pub IsAmong : List TableDef → Position → Contents → P → Contents → Type 0
+  IsAmong tables position old p left =
       (before : View) → ShowsAt tables old position before
-      → (count : ℕ) × (other : Position) × (end : View) × (q : P)
-      × PullsMany (suc count) position before p other end q × ShowsAt tables left other end
+      → (count : ℕ) × (others : List TableDef) × (other : Position) × (end : View) × (q : P)
+      × PullsMany (suc count) tables position before p others other end q × ShowsAt others left other end
 
 -- all was taken that the list tells from the version on
 abbrev pub TakesAll : Result Pulled AnswerFault → Type 0

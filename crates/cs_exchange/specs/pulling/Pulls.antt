@@ -1,12 +1,14 @@
 -- How a replica takes an entry of the hub's log: its own push is confirmed, and another's is merged.
 -- `picks p clash wish q` is an answer: at p the picker is shown the clash, wishes, and is left as q.
-use Rattle.std.specs.Prelude.{◌≡◌, ◌⊎◌, ◌<◌, ◌-◌, ◌^◌, ℕ, List, Some}
+use Rattle.std.specs.Prelude.{◌≡◌, ◌⊎◌, ◌<◌, ◌-◌, ◌^◌, ℕ, List, Option, Some}
 use Rattle.std.specs.FinMap.{len}
 use Rattle.cs_value.specs.declared.catalog.TableDef.{TableDef}
 use Rattle.cs_normal.specs.State.{IsDefinedOn}
 use Rattle.cs_normal.specs.declared.normal.TableChanges.{TableChanges}
-use Rattle.cs_store.specs.log.Entry.{MayWiden, WidensNone, entry_changes}
-use Rattle.cs_store.specs.declared.log.body.Body.TheVariants.{Changes}
+use Rattle.cs_store.specs.log.Entry.{MayWiden, entry_changes}
+use Rattle.cs_store.specs.log.Log.{catalog_after}
+use Rattle.cs_store.specs.declared.log.body.Body.{Body}
+use Rattle.cs_store.specs.declared.log.body.Body.TheVariants.{Changes, Widen}
 use Rattle.cs_store.specs.declared.log.entry.LogEntry.{LogEntry}
 use Rattle.cs_store.specs.Contents.{Contents}
 use Rattle.cs_conflict.specs.declared.clash.Clash.{Clash}
@@ -14,7 +16,7 @@ use Rattle.cs_conflict.specs.declared.wish.Wish.{Wish}
 use Rattle.cs_pending.specs.View.{View}
 use Rattle.cs_pending.specs.position.Shows.{ShowsAt, base}
 use Rattle.cs_pending.specs.declared.position.position.Position.{Position}
-use Rattle.cs_exchange.specs.taking.Takes.{IsTaken, StopsTaking, taken}
+use Rattle.cs_exchange.specs.taking.Takes.{IsTaken, IsWidened, StopsTaking, taken}
 use Rattle.cs_exchange.specs.declared.pulling.fault.PullFault.{PullFault}
 use Rattle.cs_exchange.specs.declared.pulling.fault.PullFault.TheVariants.{Memory, Behind, Gap, BadEntry, Stopped, Device}
 
@@ -34,19 +36,32 @@ IsBad tables position entry view =
     × (IsDefinedOn tables (entry_changes entry) (base position.flight view) × MayWiden tables entry.body → ⊥))
 
 module _ {P : Type 0} (picks : P → Clash → Wish → P → Type 0) where
+  -- what another's entry does is taken: its changes are merged, or the table gets its columns and nobody is asked
+  abbrev pub IsPulledBody : List TableDef → Option (List TableChanges) → Body → View → View → P → P → Type 0
+  IsPulledBody tables flight (Changes changes) before after p q = IsTaken picks tables flight changes before after p q
+  IsPulledBody tables flight (Widen table width) before after p q = IsWidened tables flight table width before after × (q ≡ p)
+
+  -- contents in which that was taken at a position; they are by the catalog that it leaves
+  abbrev pub IsTakenBody : List TableDef → Position → Body → P → P → Contents → Contents → Type 0
+  IsTakenBody tables position body p q old new =
+      (before : View) → ShowsAt tables old position before
+      → (after : View) × ShowsAt (catalog_after tables body) new (taken position (len new.pending)) after
+      × IsPulledBody tables position.flight body before after p q
+
   -- an entry is pulled, where there is a version behind this one. Of the own push the rows stay, and what is pending, and nobody is
-  -- asked. Another's is taken, where it widens no table
+  -- asked. Another's is taken
   abbrev pub PullsOne : List TableDef → Position → LogEntry → View → P → View → P → Type 0
   PullsOne tables position entry before p after q =
       (position.version < 2 ^ 64 - 1)
       × ((IsOwn position entry × (after ≡ before) × (q ≡ p))
-      ⊎ ((IsOwn position entry → ⊥) × WidensNone entry.body × IsTaken picks tables position.flight (entry_changes entry) before after p q))
+      ⊎ ((IsOwn position entry → ⊥) × IsPulledBody tables position.flight entry.body before after p q))
 
-  -- contents in which it was pulled at a position
+  -- contents in which it was pulled at a position; they are by the catalog that it leaves
   abbrev pub IsPulledIn : List TableDef → Position → LogEntry → P → P → Contents → Contents → Type 0
   IsPulledIn tables position entry p q old new =
       (before : View) → ShowsAt tables old position before
-      → (after : View) × ShowsAt tables new (taken position (len new.pending)) after × PullsOne tables position entry before p after q
+      → (after : View) × ShowsAt (catalog_after tables entry.body) new (taken position (len new.pending)) after
+      × PullsOne tables position entry before p after q
 
   -- contents in which the entry that is told at an index was: it is the one at the version
   abbrev pub IsPulledAt : List TableDef → Position → ℕ → LogEntry → P → P → Contents → Contents → Type 0

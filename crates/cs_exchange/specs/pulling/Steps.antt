@@ -1,6 +1,7 @@
 -- What is known on the way through a list of entries: no definition that a public clause cites.
 use Rattle.std.specs.Prelude.{◌≡◌, ℕ, List, Result, Ok, Err}
 use Rattle.cs_value.specs.declared.catalog.TableDef.{TableDef}
+use Rattle.cs_store.specs.log.Log.{catalog_after}
 use Rattle.cs_store.specs.declared.log.entry.LogEntry.{LogEntry}
 use Rattle.cs_store.specs.Contents.{Contents}
 use Rattle.cs_conflict.specs.declared.clash.Clash.{Clash}
@@ -35,6 +36,10 @@ module _ {P : Type 0} (picks : P → Clash → Wish → P → Type 0) where
   IsToldFault tables position told view p q (Stopped conflict) =
       (entry : LogEntry) × IsReadAs tables told entry × StopsPull picks tables position entry view p conflict q
   IsToldFault tables position told view p q Device = Unit {0}
+
+-- the catalog that the told entry leaves, whatever it is read as
+abbrev pub IsWideBy : List TableDef → ToldEntry → List TableDef → Type 0
+IsWideBy tables told others = (entry : LogEntry) → IsReadAs tables told entry → others ≡ catalog_after tables entry.body
 
 -- how a list ends at a fault of one entry, behind so many
 abbrev pub EndsAt : PullFault → ℕ → Result Pulled AnswerFault → Type 0

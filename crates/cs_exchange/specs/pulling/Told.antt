@@ -5,7 +5,9 @@ use Rattle.cs_change.specs.Spelling.{FitsChangeset, changeset_spelling}
 use Rattle.cs_change.specs.declared.group.Group.{Group}
 use Rattle.cs_normal.specs.declared.normal.TableChanges.{TableChanges}
 use Rattle.cs_normalising.specs.NormalFormOf.{IsNormalFormOf}
-use Rattle.cs_store.specs.log.Entry.{WidensNone, entry_changes, kind_of}
+use Rattle.cs_store.specs.log.Entry.{MayWiden, kind_of, widen_spelling}
+use Rattle.cs_store.specs.declared.log.body.Body.{Body}
+use Rattle.cs_store.specs.declared.log.body.Body.TheVariants.{Changes, Widen}
 use Rattle.cs_store.specs.declared.log.entry.LogEntry.{LogEntry}
 use Rattle.cs_wire.specs.Entries.{ToldEntry}
 
@@ -16,11 +18,15 @@ pub record IsFormOf (tables : List TableDef) (bytes : List ℕ) (changes : List 
   pub spelled : bytes ≡ changeset_spelling groups
   pub form : IsNormalFormOf tables groups changes
 
--- it is of the kind that is told, and has the origin and the number that are told. It widens no table, and its changes are the normal
--- form of the changeset that is told
+-- what an entry does that is told in these bytes: the changeset that they spell, in normal form. Or the columns and the name of a
+-- table that may be widened so
+abbrev pub IsReadBody : List TableDef → List ℕ → Body → Type 0
+IsReadBody tables bytes (Changes changes) = IsFormOf tables bytes changes
+IsReadBody tables bytes (Widen table width) = MayWiden tables (Widen table width) × (bytes ≡ widen_spelling table width)
+
+-- it is of the kind that is told, and has the origin and the number that are told. What it does is told in its bytes
 pub record IsReadAs (tables : List TableDef) (told : ToldEntry) (entry : LogEntry) : Type 0 where
   pub kind : told.kind ≡ kind_of entry.body
   pub origin : told.origin ≡ entry.origin
   pub number : told.number ≡ entry.number
-  pub plain : WidensNone entry.body
-  pub read : IsFormOf tables told.body (entry_changes entry)
+  pub read : IsReadBody tables told.body entry.body

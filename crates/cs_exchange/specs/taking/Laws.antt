@@ -1,6 +1,6 @@
 -- The laws of taking another's entry: one input has one answer, and each has one. `picks p clash wish q` is an answer of a picker: at
 -- p it is shown the clash, wishes, and is left as q.
-use Rattle.std.specs.Prelude.{◌≡◌, ◌⊎◌, ◌+◌, ℕ, List, Option, None, Contains}
+use Rattle.std.specs.Prelude.{◌≡◌, ◌⊎◌, ℕ, List, Option, None, Contains}
 use Rattle.std.specs.FinMap.{len}
 use Rattle.cs_value.specs.Catalog.{AreTables}
 use Rattle.cs_value.specs.Key.{Place}
@@ -17,10 +17,14 @@ use Rattle.cs_conflict.specs.declared.kind.Kind.TheVariants.{DataDiffers, NotFou
 use Rattle.cs_conflict.specs.declared.wish.Wish.{Wish}
 use Rattle.cs_conflict.specs.declared.wish.Wish.TheVariants.{Keep, Take}
 use Rattle.cs_tasks.specs.Tasks.{Task}
+use Rattle.cs_pending.specs.Shows.{IsSoundOf}
 use Rattle.cs_pending.specs.View.{View}
 use Rattle.cs_pending.specs.position.Shows.{ShowsAt, ShowsSomeAt, base}
 use Rattle.cs_pending.specs.declared.position.position.Position.{Position}
-use Rattle.cs_exchange.specs.taking.Takes.{IsClashOf, IsTaken, IsTakenTo, StopsTaking}
+use Rattle.cs_store.specs.log.Entry.{MayWiden}
+use Rattle.cs_store.specs.declared.log.body.Body.TheVariants.{Widen}
+use Rattle.cs_widening.specs.Widening.{widened, widened_tables}
+use Rattle.cs_exchange.specs.taking.Takes.{IsClashOf, IsTaken, IsTakenTo, IsWidened, IsWidenedIn, StopsTaking}
 
 -- a change, a row of the log and an own row have one clash
 abbrev pub OneClash : Type 0
@@ -176,3 +180,37 @@ pub record TakerTakes : Type 0 where
       → ShowsAt tables old position before
       → IsDefinedOn tables entry (base position.flight before)
       → (new : Contents) × IsTakenTo always_takes tables position next entry tt tt old new
+
+-- ---- a table that gets more columns
+
+-- an entry that widens a table, and is taken, leaves the log's rows with the new columns. What is pending then is sound over them
+abbrev pub WidenedLeads : Type 0
+WidenedLeads =
+    (tables : List TableDef) (contents : Contents) (position : Position) (name : List ℕ) (width : ℕ) (before after : View)
+    → AreTables tables
+    → ShowsAt tables contents position before
+    → IsWidened tables position.flight name width before after
+    → AreSame (widened name width (base position.flight before)) (base None after)
+    × IsSoundOf (widened_tables name width tables) after.pending after.tables
+
+-- taken from what one store shows it leaves one view at the places of the tables
+abbrev pub OneWidened : Type 0
+OneWidened =
+    (tables : List TableDef) (contents : Contents) (position : Position) (name : List ℕ) (width : ℕ) (before seen some other : View)
+    → AreTables tables
+    → ShowsAt tables contents position before
+    → ShowsAt tables contents position seen
+    → IsWidened tables position.flight name width before some
+    → IsWidened tables position.flight name width seen other
+    → AreSame some.tables other.tables
+    × ((table : TableDef) (key : List ℕ) → Contains (widened_tables name width tables) table
+    → other.pending table.name key ≡ some.pending table.name key)
+
+-- and where a table may be widened so, there is a store that holds what is left
+abbrev pub WidenCanBeTaken : Type 0
+WidenCanBeTaken =
+    (tables : List TableDef) (old : Contents) (position : Position) (name : List ℕ) (width : ℕ) (before : View)
+    → AreTables tables
+    → ShowsAt tables old position before
+    → MayWiden tables (Widen name width)
+    → (new : Contents) × IsWidenedIn tables position name width old new

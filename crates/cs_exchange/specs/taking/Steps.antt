@@ -1,5 +1,5 @@
 -- What the code holds on its way: no definition that a public clause cites.
-use Rattle.std.specs.Prelude.{◌≡◌, ◌≢◌, ◌⊎◌, ℕ, Bool, true, false, is_some, List, [], ◌∷◌, map, Option, Some, None, Contains}
+use Rattle.std.specs.Prelude.{◌≡◌, ◌≢◌, ◌⊎◌, ℕ, Bool, true, false, is_some, List, [], ◌∷◌, ◌++◌, map, Option, Some, None, Contains}
 use Rattle.std.specs.FinMap.{len}
 use Rattle.std.specs.List.{AllByRecursion}
 use Rattle.cs_value.specs.Key.{Place}
@@ -18,16 +18,18 @@ use Rattle.cs_apply.specs.NormalTasks.{AreElsewhere, HaveOwnPlaces}
 use Rattle.cs_tasks.specs.Tasks.{Task}
 use Rattle.cs_store.specs.Contents.{Contents}
 use Rattle.cs_store.specs.declared.batch.Batch.{Batch}
-use Rattle.cs_store.specs.declared.names.MetaName.TheVariants.{Flight, Version}
+use Rattle.cs_store.specs.declared.names.MetaName.TheVariants.{Catalog, Flight, Version}
 use Rattle.cs_wire.specs.Numbers.{eight_bytes}
-use Rattle.cs_pending.specs.Settling.{Settles}
+use Rattle.cs_pending.specs.Settling.{IsWithin, Settles}
 use Rattle.cs_pending.specs.View.{View, direct_net, middle}
 use Rattle.cs_pending.specs.declared.settling.Settling.{Settling}
 use Rattle.cs_pending.specs.position.Shows.{ShowsAt, base, flown}
-use Rattle.cs_pending.specs.position.Values.{ValuePart, value_part}
+use Rattle.cs_pending.specs.position.Values.{ValuePart, catalog_bytes, value_part}
 use Rattle.cs_pending.specs.declared.position.position.Position.{Position}
 use Rattle.cs_exchange.specs.taking.Takes.{IsClashOf, TakeAll, brought}
 use Rattle.cs_exchange.specs.declared.taking.site.Site.{Site}
+use Rattle.cs_padding.specs.Pending.{widened_view}
+use Rattle.cs_widening.specs.Widening.{widened_tables}
 pub use Rattle.cs_apply.specs.placement.Places.{ArePlaced, IsPlaced, task_of}
 
 -- ---- what is pending at a place
@@ -148,3 +150,22 @@ abbrev pub IsCommitted : List TableDef → Position → ℕ → Settling → Con
 IsCommitted tables position next settling old new =
     (seen end : View) → ShowsAt tables old position seen → Settles tables old position.pending settling end
     → ShowsAt tables new (brought position next (len new.pending)) end × (settling.count ≡ len new.pending)
+
+-- ---- a table that gets more columns
+
+-- the edits lead to the view in which what was under way is pending, with the new columns
+abbrev pub IsWideSettling : List TableDef → Position → List ℕ → ℕ → Contents → View → Settling → Type 0
+IsWideSettling tables position name width contents seen settling =
+    (folded : View) × IsFlightFolded tables position.flight seen folded
+    × IsWithin (widened_tables name width tables) settling
+    × Settles (widened_tables name width tables) contents position.pending settling (widened_view name width folded)
+
+-- the values where a version is the next, nothing is under way, and these are the tables
+abbrev pub wider_values : ℕ → List TableDef → List ValuePart
+wider_values version tables = next_values version ++ (Catalog, Some (catalog_bytes tables)) ∷ []
+
+-- where the gathered edits lead to a view by other tables, the contents show it by them at this version
+abbrev pub IsCommittedWider : List TableDef → List TableDef → Position → ℕ → Settling → Contents → Contents → Type 0
+IsCommittedWider tables others position next settling old new =
+    (seen end : View) → ShowsAt tables old position seen → IsWithin others settling → Settles others old position.pending settling end
+    → ShowsAt others new (brought position next (len new.pending)) end × (settling.count ≡ len new.pending)

@@ -9,7 +9,10 @@ use Rattle.cs_change.specs.Net.{net}
 use Rattle.cs_normal.specs.Normal.{change_of, groups_of}
 use Rattle.cs_normal.specs.State.{State, IsApplied, IsDefinedOn}
 use Rattle.cs_normal.specs.declared.normal.TableChanges.{TableChanges}
+use Rattle.cs_padding.specs.Pending.{widened_view}
 use Rattle.cs_store.specs.Contents.{Contents}
+use Rattle.cs_store.specs.log.Entry.{MayWiden}
+use Rattle.cs_store.specs.declared.log.body.Body.TheVariants.{Widen}
 use Rattle.cs_conflict.specs.Conflict.{kind}
 use Rattle.cs_conflict.specs.Wishes.{resolution_of}
 use Rattle.cs_conflict.specs.declared.clash.Clash.{Clash}
@@ -20,6 +23,7 @@ use Rattle.cs_apply.specs.Applies.{IsConflictOf}
 use Rattle.cs_tasks.specs.Tasks.{Task, tasks}
 use Rattle.cs_change.specs.netting.Combine.{with_flag_any}
 use Rattle.cs_rebaser.specs.Merge.{merge}
+use Rattle.cs_widening.specs.Widening.{widened_tables}
 use Rattle.cs_pending.specs.View.{View, direct_net, middle}
 use Rattle.cs_pending.specs.position.Shows.{ShowsAt, base, flown}
 use Rattle.cs_pending.specs.declared.position.position.Position.{Position}
@@ -105,6 +109,25 @@ module _ {P : Type 0} (picks : P → Clash → Wish → P → Type 0) where
 -- the position after another's entry
 abbrev pub taken : Position → ℕ → Position
 taken position pending = brought position (position.version + 1) pending
+
+-- a picker that is asked nothing
+abbrev pub asked_nothing : Unit {0} → Clash → Wish → Unit {0} → Type 0
+asked_nothing p clash wish q = ⊥
+
+-- a table got so many columns. What was under way is pending, as where an entry without changes is taken: nobody is asked. And then
+-- the rows and the pending changes of the table have the new columns
+pub record IsWidened (tables : List TableDef) (flight : Option (List TableChanges)) (name : List ℕ) (width : ℕ) (before after : View) : Type 0 where
+  pub may : MayWiden tables (Widen name width)
+  pub folded : View
+  pub taken : IsTaken asked_nothing tables flight [] before folded tt tt
+  pub wide : after ≡ widened_view name width folded
+
+-- contents in which an entry that widens a table was taken at a position
+abbrev pub IsWidenedIn : List TableDef → Position → List ℕ → ℕ → Contents → Contents → Type 0
+IsWidenedIn tables position name width old new =
+    (before : View) → ShowsAt tables old position before
+    → (after : View) × ShowsAt (widened_tables name width tables) new (taken position (len new.pending)) after
+    × IsWidened tables position.flight name width before after
 
 -- where it is told that the picker stopped, this is said of the conflict
 abbrev pub IfStopped : TakeFault → (Conflict → Type 0) → Type 0

@@ -25,6 +25,7 @@ pub fn form_or_not()
 pub fn one_read()
     ensures { OneRead }
 {
+    cs_store::log::laws::one_body();
     one_form();
 }
 
@@ -32,6 +33,7 @@ pub fn one_read()
 pub fn read_or_not()
     ensures { ReadOrNot }
 {
+    cs_store::log::laws::next_or_not();
     form_or_not();
 }
 
@@ -40,6 +42,7 @@ pub fn pulled_leads<P: Picker>(_picker: &P)
     ensures { PulledLeads P.picks }
 {
     cs_normal::laws::net_is_applied();
+    crate::taking::laws::widened_leads();
 }
 
 /// Where a picker has one answer to each clash, an entry that is pulled from what one store shows leaves one view. It leaves one state
@@ -50,6 +53,7 @@ pub fn one_pull<P: Picker>()
 {
     cs_pending::laws::one_view();
     crate::taking::laws::one_taken::<P>();
+    crate::taking::laws::one_widened();
     crate::taking::laws::one_contents();
 }
 
@@ -69,19 +73,21 @@ pub fn pulled_or_refused<P: Picker>()
     ensures { PulledOrRefused P.picks P.is_ready }
 {
     cs_store::log::laws::defined_or_not();
+    cs_store::log::laws::next_or_not();
     cs_store::log::laws::one_body();
-    cs_store::log::laws::none_widens();
     cs_normal::laws::net_is_applied();
     cs_normal::laws::defined_is_applied();
+    crate::taking::laws::widen_can_be_taken();
     crate::taking::laws::one_contents();
     crate::taking::laws::taken_or_stopped::<P>();
 }
 
-/// Where a picker has one answer to each clash, a list of entries has one result. It leaves one position, one thing in the store, and
-/// one state of the picker.
+/// Where a picker has one answer to each clash, a list of entries has one result. It leaves one catalog, one position, one thing in
+/// the store, and one state of the picker.
 pub fn one_list<P: Picker>()
     ensures { OneList P.picks }
 {
+    cs_widening::laws::widened_are_tables();
     one_read();
     one_pull::<P>();
     cs_pending::laws::one_view();
@@ -95,6 +101,7 @@ pub fn one_list<P: Picker>()
 pub fn list_has_result<P: Picker>()
     ensures { ListHasResult P.picks P.is_ready }
 {
+    cs_widening::laws::widened_are_tables();
     one_read();
     read_or_not();
     pulled_or_refused::<P>();

@@ -8,7 +8,7 @@ ghost use Rattle.cs_pending.specs.position.Shows.{ShowsAt, ShowsSomeAt};
 ghost use Rattle.cs_exchange.specs.taking.Takes.{taken};
 ghost use Rattle.cs_exchange.specs.pulling.Calls.{WritesInTurn};
 ghost use Rattle.cs_exchange.specs.pulling.Listed.{IsAmong, IsNextOf, PullsList, TakesAll, TellsDevice};
-ghost use Rattle.cs_exchange.specs.pulling.Steps.{EndsAt, IsToldFault, IsToldPulled};
+ghost use Rattle.cs_exchange.specs.pulling.Steps.{EndsAt, IsToldFault, IsToldPulled, IsWideBy};
 ghost use Rattle.cs_exchange.specs.declared.pulling.fault.PullFault.TheVariants.{Behind, Gap, Device};
 
 use crate::pulling::fault::{AnswerFault, PullFault};
@@ -34,7 +34,7 @@ pub enum Pulled {
 fn pull_told<S: RowStore, P: Picker>(
     alloc: Global,
     store: &mut S,
-    catalog: &Catalog,
+    catalog: &mut Catalog,
     position: &mut Position,
     told: &WireEntry<'_>,
     picker: &mut P,
@@ -42,15 +42,17 @@ fn pull_told<S: RowStore, P: Picker>(
     requires ready { P.is_ready picker.old }
     ensures ready { P.is_ready picker.new }
     ensures writes { WritesStore S.RowStore Device
-        (ShowsSomeAt catalog.now position.old (S.contents store.old))
-        (IsToldPulled P.picks catalog.now position.old told.now picker.old picker.new (S.contents store.old)) store.old store.new result }
+        (ShowsSomeAt catalog.old position.old (S.contents store.old))
+        (IsToldPulled P.picks catalog.old position.old told.now picker.old picker.new (S.contents store.old)) store.old store.new result }
     ensures room { OnOk result (position.old.version < 2 ^ 64 - 1) }
     ensures moved { OnOk result (position.new ≡ taken position.old position.new.pending) }
-    ensures counted { S.honest store.new → ShowsSomeAt catalog.now position.old (S.contents store.old)
+    ensures wide { OnOk result (IsWideBy catalog.old told.now catalog.new) }
+    ensures counted { S.honest store.new → ShowsSomeAt catalog.old position.old (S.contents store.old)
         → OnOk result (position.new.pending ≡ len (S.contents store.new).pending) }
     ensures kept { OnErr result (position.new ≡ position.old) }
-    ensures refused { S.honest store.new → (view : View) → ShowsAt catalog.now (S.contents store.old) position.old view
-        → IfErr result (IsToldFault P.picks catalog.now position.old told.now view picker.old picker.new) }
+    ensures narrow { OnErr result (catalog.new ≡ catalog.old) }
+    ensures refused { S.honest store.new → (view : View) → ShowsAt catalog.old (S.contents store.old) position.old view
+        → IfErr result (IsToldFault P.picks catalog.old position.old told.now view picker.old picker.new) }
     ensures behind { result ≢ Err Behind }
     ensures gap { result ≢ Err Gap }
 {
@@ -78,7 +80,7 @@ fn ended(fault: PullFault, count: u64) -> Result<Pulled, AnswerFault>
 
 /// Pulls the entries of an answer, of which the first is the hub's at `first`, one after another, each in a commit of its own. Those
 /// before the position's version are passed over unread. The list ends where the picker stops, and at an entry that is behind the
-/// one at the version. What was taken stays, whatever comes later.
+/// one at the version. What was taken stays, whatever comes later. Each entry is read by the catalog that those before it leave.
 ///
 /// # Errors
 ///
@@ -87,7 +89,7 @@ fn ended(fault: PullFault, count: u64) -> Result<Pulled, AnswerFault>
 pub fn take_entries<S: RowStore, P: Picker>(
     alloc: Global,
     store: &mut S,
-    catalog: &Catalog,
+    catalog: &mut Catalog,
     position: &mut Position,
     first: u64,
     entries: &Entries<'_>,
@@ -97,14 +99,14 @@ pub fn take_entries<S: RowStore, P: Picker>(
     ensures ready { P.is_ready picker.new }
 
     // So many entries were pulled, one after another, and what is told of the next holds.
-    ensures pulls { S.honest store.new → (before : View) → ShowsAt catalog.now (S.contents store.old) position.old before
-        → PullsList P.picks catalog.now first entries.now result position.old before picker.old position.new (S.contents store.new) picker.new }
+    ensures pulls { S.honest store.new → (before : View) → ShowsAt catalog.old (S.contents store.old) position.old before
+        → PullsList P.picks first entries.now result catalog.old position.old before picker.old catalog.new position.new (S.contents store.new) picker.new }
 
     // Each in a commit of its own.
     ensures writes { WritesInTurn S.RowStore (TakesAll result) (TellsDevice result)
-        (ShowsSomeAt catalog.now position.old (S.contents store.old))
-        (IsAmong P.picks catalog.now first entries.now position.old (S.contents store.old) picker.old)
-        (IsNextOf P.picks catalog.now first entries.now position.new (S.contents store.new)) store.old store.new }
+        (ShowsSomeAt catalog.old position.old (S.contents store.old))
+        (IsAmong P.picks first entries.now catalog.old position.old (S.contents store.old) picker.old)
+        (IsNextOf P.picks first entries.now catalog.new position.new (S.contents store.new)) store.old store.new }
 {
     let mut count = 0;
     let mut index = first;

@@ -2,17 +2,24 @@
 
 ghost use Rattle.std.specs.Prelude.{◌≡◌, ◌≢◌, List, Some, IfOk, IfSome, OnOk};
 ghost use Rattle.cs_normal.specs.declared.normal.TableChanges.{TableChanges};
+ghost use Rattle.cs_store.specs.log.Entry.{kind_of};
+ghost use Rattle.cs_store.specs.declared.log.body.Body.{Body as EntryBody};
 ghost use Rattle.cs_store.specs.declared.log.entry.LogEntry.{LogEntry as Entry};
 ghost use Rattle.cs_normalising.specs.declared.unfit.Unfit.TheVariants.{Memory as OutOfMemory};
-ghost use Rattle.cs_exchange.specs.pulling.Told.{IsFormOf, IsReadAs};
+ghost use Rattle.cs_exchange.specs.pulling.Told.{IsFormOf, IsReadAs, IsReadBody};
 
 use cs_changeset::{CodecFault, read};
 use cs_normal::Normal;
 use cs_normalising::{Unfit, normalise};
-use cs_store::log::{Body, LogEntry};
+use cs_store::log::{Body, BodyFault, LogEntry, read_body};
 use cs_value::{Catalog, Memory};
 use cs_wire::WireEntry;
 use std::alloc::{AllocError, Global};
+
+/// The kind of an entry that has a changeset, and of one that widens a table.
+const CHANGES: u8 = 0;
+
+const WIDEN: u8 = 1;
 
 /// Passes on want of memory; any other fault is one of the changeset.
 fn refuses(fault: Unfit) -> Result<(), Memory>
@@ -51,8 +58,44 @@ pub(crate) fn read_form(
     }
 }
 
-/// The entry of the log that an answer's entry is. Its changeset is read, and brought into normal form by the tables. None where
-/// either can't be, or where there is no such kind of entry.
+/// The table that is told to get more columns, and how many it then has. None where it may not be widened so.
+fn read_wide(alloc: Global, catalog: &Catalog, bytes: &[u8]) -> Result<Option<Body>, Memory>
+    ensures found { IfOk result (λ read. IfSome read (λ body. (kind_of body ≡ 1) × IsReadBody catalog.now bytes.now body)) }
+    ensures only { (body : EntryBody) → kind_of body ≡ 1 → IsReadBody catalog.now bytes.now body → IfOk result (λ read. read ≡ Some body) }
+{
+    let _tables = catalog.tables();
+    let mut stored = Vec::with_capacity(alloc, 1)?;
+    stored.push(WIDEN)?;
+    stored.extend_from_slice(bytes)?;
+    match read_body(alloc, catalog, stored.as_slice()) {
+        Ok(body) => Ok(Some(body)),
+        Err(BodyFault::Memory) => Err(AllocError),
+        Err(BodyFault::NoBody) => Ok(None),
+    }
+}
+
+/// What an answer's entry does: its changeset in normal form by the tables, or the table that gets more columns.
+fn read_told_body(
+    alloc: Global,
+    catalog: &Catalog,
+    kind: u8,
+    bytes: &[u8],
+) -> Result<Option<Body>, Memory>
+    ensures found { IfOk result (λ read. IfSome read (λ body. (kind_of body ≡ kind) × IsReadBody catalog.now bytes.now body)) }
+    ensures only { (body : EntryBody) → kind_of body ≡ kind → IsReadBody catalog.now bytes.now body → IfOk result (λ read. read ≡ Some body) }
+{
+    match kind {
+        CHANGES => match read_form(alloc, catalog, bytes)? {
+            Some(changes) => Ok(Some(Body::Changes(changes))),
+            None => Ok(None),
+        },
+        WIDEN => read_wide(alloc, catalog, bytes),
+        _ => Ok(None),
+    }
+}
+
+/// The entry of the log that an answer's entry is, by the present tables. None where what it does can't be read, or where there is no
+/// such kind of entry.
 pub(crate) fn read_told(
     alloc: Global,
     catalog: &Catalog,
@@ -61,16 +104,12 @@ pub(crate) fn read_told(
     ensures found { IfOk result (λ read. IfSome read (IsReadAs catalog.now told.now)) }
     ensures only { (entry : Entry) → IsReadAs catalog.now told.now entry → IfOk result (λ read. read ≡ Some entry) }
 {
-    let Some(changes) = read_form(alloc, catalog, told.body())? else {
+    let Some(body) = read_told_body(alloc, catalog, told.kind(), told.body())? else {
         return Ok(None);
     };
-    let entry = LogEntry {
+    Ok(Some(LogEntry {
         origin: told.origin(),
         number: told.number(),
-        body: Body::Changes(changes),
-    };
-    if entry.body.kind() != told.kind() {
-        return Ok(None);
-    }
-    Ok(Some(entry))
+        body,
+    }))
 }

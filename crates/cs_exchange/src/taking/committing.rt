@@ -17,7 +17,7 @@ use cs_value::{Catalog, Memory};
 use std::alloc::Global;
 
 /// The values of a version with nothing under way.
-fn values_at(alloc: Global, version: u64) -> Result<Vec<MetaEdit>, Memory>
+pub(crate) fn values_at(alloc: Global, version: u64) -> Result<Vec<MetaEdit>, Memory>
     ensures { IfOk result (λ edits. map value_part edits.items ≡ next_values version) }
 {
     let next = MetaEdit {

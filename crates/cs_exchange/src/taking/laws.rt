@@ -1,6 +1,6 @@
 //! The laws of taking another's entry, each the contract of a function that does nothing.
 
-ghost use Rattle.cs_exchange.specs.taking.Laws.{BadIsNeither, NextIsShown, NoStopWhereTaken, OneClash, OneContents, OneLogRows, OneStopTaking, OneTaken, OneTakenIn, TakenInOrStopped, TakenOrStopped, TakerTakes};
+ghost use Rattle.cs_exchange.specs.taking.Laws.{BadIsNeither, NextIsShown, NoStopWhereTaken, OneClash, OneContents, OneLogRows, OneStopTaking, OneTaken, OneTakenIn, OneWidened, TakenInOrStopped, TakenOrStopped, TakerTakes, WidenCanBeTaken, WidenedLeads};
 
 use cs_conflict::Picker;
 
@@ -89,4 +89,27 @@ pub fn taker_takes()
     cs_conflict::laws::not_found_is_covered();
     cs_rebaser::laws::diamond();
     cs_pending::laws::one_view();
+}
+
+/// An entry that widens a table, and is taken, leaves the log's rows with the new columns, and what is pending sound over them.
+pub fn widened_leads()
+    ensures { WidenedLeads }
+{
+    cs_padding::laws::sound_widens();
+}
+
+/// Taken from what one store shows it leaves one view.
+pub fn one_widened()
+    ensures { OneWidened }
+{
+    cs_pending::laws::one_view();
+    one_contents();
+}
+
+/// Where a table may be widened so, there is a store that holds what such an entry leaves.
+pub fn widen_can_be_taken()
+    ensures { WidenCanBeTaken }
+{
+    cs_padding::laws::wide_store_can_be();
+    taker_takes();
 }

@@ -1,5 +1,5 @@
 -- Entries of a log, taken together, lead from version to version.
-use Rattle.std.proofs.Common.{◌≡◌, ◌+◌, ◌≤◌, ℕ, suc, List, [], ◌∷◌, ◌++◌, drop, length, map, take, Some, refl, sym, ap, subst, arith, length-append}
+use Rattle.std.proofs.Common.{◌≡◌, ◌+◌, ◌≤◌, ℕ, suc, List, [], ◌∷◌, ◌++◌, drop, length, map, take, Some, refl, sym, ap, subst, arith, inl, length-append}
 use Rattle.std.specs.Prelude.{◌≢◌, slice_get}
 use Rattle.std.specs.List.{All, AllByRecursion}
 use Rattle.std.proofs.lemmas.List.{drop-take, length-drop, take-append-le}
@@ -8,12 +8,12 @@ use Rattle.cs_value.specs.declared.catalog.TableDef.{TableDef}
 use Rattle.cs_group.specs.Leads.{JoinLeads}
 use Rattle.cs_group.specs.Tables.{OneJoin}
 use Rattle.cs_normal.specs.Normal.{IsNormalChangeset}
-use Rattle.cs_normal.specs.State.{AreApplied, IsStateOf}
-use Rattle.cs_store.specs.log.Entry.{WidensNone, entry_changes}
-use Rattle.cs_store.specs.log.Laws.{CatalogStays, LogStates, NoneWidens, PlainSlices}
+use Rattle.cs_store.specs.log.Entry.{entry_changes}
+use Rattle.cs_store.specs.log.Laws.{CatalogsAreTables, LogStates, PlainSlices}
 use Rattle.cs_store.specs.log.Log.{IsLog, catalog_at, entries_between, tables_at}
 use Rattle.cs_store.specs.declared.log.entry.LogEntry.{LogEntry}
 use Rattle.cs_hub.specs.catching.Consolidated.{IsConsolidated, IsShort}
+use Rattle.cs_hub.proofs.CatchingLemmas.Plain.{IsPlain, all_plain}
 use Rattle.cs_hub.specs.catching.Laws.{CaughtAreOthers, CaughtIsShort, ConsolidatedLeads, OneConsolidated, OthersAsLogGrows, SameEntries}
 
 pub one_consolidated : OneJoin → OneConsolidated
@@ -37,24 +37,13 @@ HasNormal entry = IsNormalChangeset (entry_changes entry)
 all_normal : (tables : List TableDef) (log : List LogEntry) → IsLog tables log → All HasNormal log
 all_normal tables log is = All-from_recursion HasNormal log (at_each HasNormal log (λ version entry there. (is version entry there).normal))
 
-abbrev IsPlain : LogEntry → Type 0
-IsPlain entry = WidensNone entry.body
-
-all_plain : NoneWidens → (opening : List TableDef) (log : List LogEntry) → IsLog opening log → All IsPlain log
-all_plain none opening log is =
-    All-from_recursion IsPlain log (at_each IsPlain log (λ version entry there.
-    none (catalog_at opening (take version log) (length (take version log))) entry.body (is version entry there).widens))
-
-pub consolidated_leads : NoneWidens → CatalogStays → JoinLeads → PlainSlices → LogStates → ConsolidatedLeads
-consolidated_leads none stays join slices states tables log from to changes are is less within one =
+pub consolidated_leads : CatalogsAreTables → JoinLeads → PlainSlices → LogStates → ConsolidatedLeads
+consolidated_leads catalogs join slices states opening log from to changes are is less within plain one =
     let entries = entries_between log from to in
-    let same : catalog_at tables log from ≡ tables = stays tables log from is in
-    let normal : All HasNormal entries = All-drop HasNormal from (take to log) (All-take HasNormal to log (all_normal tables log is)) in
-    let plain : All IsPlain entries = All-drop IsPlain from (take to log) (All-take IsPlain to log (all_plain none tables log is)) in
-    join tables (map entry_changes entries) changes (tables_at log from) (tables_at log to) are
+    let normal : All HasNormal entries = All-drop HasNormal from (take to log) (All-take HasNormal to log (all_normal opening log is)) in
+    join (catalog_at opening log from) (map entry_changes entries) changes (tables_at log from) (tables_at log to) (catalogs opening log from are is)
     (recursion_from_All IsNormalChangeset (map entry_changes entries) (All-map IsNormalChangeset entry_changes entries normal))
-    one.of_tables.1 one.joined (subst (λ (t : List TableDef). IsStateOf t (tables_at log from)) same (states tables log from are is))
-    (subst (λ (t : List TableDef). AreApplied t (map entry_changes entries) (tables_at log from) (tables_at log to)) same (slices tables log from to is less plain))
+    one.of_tables.1 one.joined (states opening log from are is) (slices opening log from to is less plain)
 
 -- ---- what is told as one
 
@@ -63,6 +52,7 @@ OfOthers origin entry = entry.origin ≢ origin
 
 pub caught_are_others : CaughtAreOthers
 caught_are_others tables log asker limit first count changes inside (not, run, one) =
+    let others = (run.each count (omega arith)).others in
     let whole : take count (drop first log) ≡ entries_between log first (first + count) = sym (drop-take first count log) in
     record {
       rising = omega arith;
@@ -70,7 +60,8 @@ caught_are_others tables log asker limit first count changes inside (not, run, o
       changes = changes;
       spelled = refl;
       together = subst (λ (es : List LogEntry). IsConsolidated tables es changes) whole one;
-      others = subst (All (OfOthers asker)) whole (run.each count (omega arith)).others;
+      others = subst (All (OfOthers asker)) whole (λ k d inside. (λ own. others k d inside (inl own)));
+      plain = subst (All IsPlain) whole (all_plain asker (take count (drop first log)) others);
     }
 
 pub caught_is_short : OneJoin → CaughtIsShort
@@ -88,4 +79,5 @@ others_as_log_grows tables log more origin first next bytes is =
       spelled = is.spelled;
       together = subst (λ (es : List LogEntry). IsConsolidated tables es is.changes) same is.together;
       others = subst (All (OfOthers origin)) same is.others;
+      plain = subst (All IsPlain) same is.plain;
     }

@@ -1,7 +1,7 @@
 -- Who asks to catch up is told one thing, and something.
 use Rattle.std.proofs.Common.{◌≡◌, ◌≢◌, ◌+◌, ◌<◌, ◌≤◌, ◌⊎◌, ℕ, zero, suc, List, [], ◌∷◌, length, map, take, refl, sym, ap, subst, ◌∙◌, arith, inl, inr}
 use Rattle.std.specs.List.{All, AllByRecursion, sum_by}
-use Rattle.std.proofs.lemmas.List.Elements.{All-from_recursion, All-map, All-take, recursion_from_All}
+use Rattle.std.proofs.lemmas.List.Elements.{All-from_recursion, All-map, recursion_from_All}
 use Rattle.std.proofs.lemmas.Option.{same_Some}
 use Rattle.cs_value.specs.Catalog.{AreTables}
 use Rattle.cs_value.specs.declared.catalog.TableDef.{TableDef}
@@ -12,12 +12,13 @@ use Rattle.cs_store.specs.log.Entry.{entry_changes}
 use Rattle.cs_store.specs.log.Stored.{AreChangesOf}
 use Rattle.cs_store.specs.declared.log.entry.LogEntry.{LogEntry}
 use Rattle.cs_store.specs.declared.log.entry.TheConstants.{MAX_CHANGESET}
-use Rattle.cs_hub.specs.catching.Catches.{BeginsWithOwn, Catches, IsRun, IsToldAlone, MayBeOne}
+use Rattle.cs_hub.specs.catching.Catches.{BeginsAlone, Catches, IsRun, IsToldAlone, MayBeOne}
 use Rattle.cs_hub.specs.catching.Consolidated.{AreOne, AreShort, IsConsolidated}
 use Rattle.cs_hub.specs.catching.Laws.{CatchHasAnswer, OneCatch}
 use Rattle.cs_hub.specs.declared.catching.caught.Caught.{Caught}
-use Rattle.cs_hub.specs.declared.catching.caught.Caught.TheVariants.{Merged, Own}
+use Rattle.cs_hub.specs.declared.catching.caught.Caught.TheVariants.{Alone, Merged}
 use Rattle.cs_hub.proofs.CatchingLemmas.Leads.{one_consolidated}
+use Rattle.cs_hub.proofs.CatchingLemmas.Plain.{Fits, IsPlain, all_plain, widens_or_not}
 
 -- ---- numbers
 
@@ -53,9 +54,9 @@ merged_same : (count other : ℕ) (some changes : List TableChanges) → count �
 merged_same count other some changes counts is = ap (λ (n : ℕ). Merged n some) counts ∙ ap (λ (cs : List TableChanges). Merged other cs) is
 
 pub one_catch : OneJoin → OneCatch
-one_catch law tables asker limit entries Own Own are s o = refl
-one_catch law tables asker limit entries Own (Merged count changes) are s o = absurd (o.0 s)
-one_catch law tables asker limit entries (Merged count changes) Own are s o = absurd (s.0 o)
+one_catch law tables asker limit entries Alone Alone are s o = refl
+one_catch law tables asker limit entries Alone (Merged count changes) are s o = absurd (o.0 s)
+one_catch law tables asker limit entries (Merged count changes) Alone are s o = absurd (s.0 o)
 one_catch law tables asker limit entries (Merged count some) (Merged other changes) are (away, run, is) (never, runs, also) =
     let counts = one_run tables asker limit entries count other run runs in
     let there = subst (λ (n : ℕ). IsConsolidated tables (take n entries) some) counts is in
@@ -90,7 +91,14 @@ short_or_not law tables list changes are one =
     ]
 
 alone_or_not : (asker : ℕ) (entry : LogEntry) → IsToldAlone asker entry ⊎ (IsToldAlone asker entry → ⊥)
-alone_or_not asker entry = same_or entry.origin asker
+alone_or_not asker entry =
+    elim (same_or entry.origin asker) [
+      | inl own ↦ inl (inl own)
+      | inr other ↦ elim (widens_or_not entry.body) [
+        | inr widens ↦ inl (inr widens)
+        | inl none ↦ inr (λ alone. elim alone [ inl own ↦ other own | inr widens ↦ widens none ])
+      ]
+    ]
 
 abbrev pub IsNotAlone : ℕ → LogEntry → Type 0
 IsNotAlone asker entry = IsToldAlone asker entry → ⊥
@@ -103,26 +111,28 @@ others_or_not asker (first ∷ rest) =
       | inr other ↦ elim (others_or_not asker rest) [ inl all ↦ inl (other, all) | inr not ↦ inr (λ all. not all.1) ]
     ]
 
--- its changeset is one of the tables
-abbrev pub Fits : List TableDef → LogEntry → Type 0
-Fits tables entry = AreChangesOf tables (entry_changes entry)
-
 fitting : (tables : List TableDef) (entries : List LogEntry) → All (Fits tables) entries → All (AreChangesOf tables) (map entry_changes entries)
 fitting tables entries all = All-map (AreChangesOf tables) entry_changes entries all
 
-may_or_not : Joins → (tables : List TableDef) (asker limit : ℕ) (entries : List LogEntry) → AreTables tables → All (Fits tables) entries → MayBeOne tables asker limit entries ⊎ (MayBeOne tables asker limit entries → ⊥)
-may_or_not laws tables asker limit entries are all =
+short_as_one : Joins → (tables : List TableDef) (entries : List LogEntry) → AreTables tables → All (Fits tables) entries → AreShort tables (map entry_changes entries) ⊎ (AreShort tables (map entry_changes entries) → ⊥)
+short_as_one laws tables entries are all =
     let list = map entry_changes entries in
     let each = fitting tables entries all in
     let made = laws.some tables list are (recursion_from_All IsNormalChangeset list (λ k d within. (each k d within).0)) (recursion_from_All (FitsCatalog tables) list (λ k d within. (each k d within).1)) in
+    short_or_not laws.one tables list made.0 are (record { of_tables = (made.1, made.2); joined = made.3 })
+
+may_or_not : Joins → (tables : List TableDef) (asker limit : ℕ) (entries : List LogEntry) → AreTables tables → (All IsPlain entries → All (Fits tables) entries) → MayBeOne tables asker limit entries ⊎ (MayBeOne tables asker limit entries → ⊥)
+may_or_not laws tables asker limit entries are fit =
     elim (le_or (length entries) limit) [
       | inr many ↦ inr (λ may. omega (arith, many, may.within))
       | inl within ↦ elim (others_or_not asker entries) [
         | inr not ↦ inr (λ may. not (recursion_from_All (IsNotAlone asker) entries may.others))
-        | inl others ↦ elim (short_or_not laws.one tables list made.0 are (record { of_tables = (made.1, made.2); joined = made.3 })) [
-          | inr long ↦ inr (λ may. long may.short)
-          | inl short ↦ inl (record { within = within; others = All-from_recursion (IsNotAlone asker) entries others; short = short })
-        ]
+        | inl others ↦
+            let each = All-from_recursion (IsNotAlone asker) entries others in
+            elim (short_as_one laws tables entries are (fit (all_plain asker entries each))) [
+              | inr long ↦ inr (λ may. long may.short)
+              | inl short ↦ inl (record { within = within; others = each; short = short })
+            ]
       ]
     ]
 
@@ -133,7 +143,7 @@ none_may laws tables asker limit are = record {
   short = short_of laws tables [] are (All-from_recursion (AreChangesOf tables) [] tt) (omega arith);
 }
 
-module _ (laws : Joins) (tables : List TableDef) (asker limit : ℕ) (entries : List LogEntry) (are : AreTables tables) (all : All (Fits tables) entries) where
+module _ (laws : Joins) (tables : List TableDef) (asker limit : ℕ) (entries : List LogEntry) (are : AreTables tables) (fit : (count : ℕ) → All IsPlain (take count entries) → All (Fits tables) (take count entries)) where
   one_more_each : (n : ℕ) → ((m : ℕ) → m ≤ n → MayBeOne tables asker limit (take m entries)) → MayBeOne tables asker limit (take (n + 1) entries) → (m : ℕ) → m ≤ n + 1 → MayBeOne tables asker limit (take m entries)
   one_more_each n each may m less =
       elim (le_or m n) [
@@ -144,7 +154,7 @@ module _ (laws : Joins) (tables : List TableDef) (asker limit : ℕ) (entries : 
   search_run : (left n : ℕ) → n + left ≡ length entries → ((m : ℕ) → m ≤ n → MayBeOne tables asker limit (take m entries)) → (count : ℕ) × IsRun tables asker limit entries count
   search_run zero n is each = (n, record { there = omega (arith, is); each = each; ends = λ less may. omega (arith, is, less) })
   search_run (suc left) n is each =
-      elim (may_or_not laws tables asker limit (take (n + 1) entries) are (All-take (Fits tables) (n + 1) entries all)) [
+      elim (may_or_not laws tables asker limit (take (n + 1) entries) are (fit (n + 1))) [
         | inl may ↦ search_run left (n + 1) (omega (arith, is)) (one_more_each n each may)
         | inr not ↦ (n, record { there = omega (arith, is); each = each; ends = λ less. not })
       ]
@@ -152,26 +162,26 @@ module _ (laws : Joins) (tables : List TableDef) (asker limit : ℕ) (entries : 
   none_each : (m : ℕ) → m ≤ 0 → MayBeOne tables asker limit (take m entries)
   none_each m less = subst (λ (k : ℕ). MayBeOne tables asker limit (take k entries)) (let e : 0 ≡ m = omega (arith, less) in e) (none_may laws tables asker limit are)
 
-  merged_of : (BeginsWithOwn asker limit entries → ⊥) → (caught : Caught) × Catches tables asker limit entries caught
+  merged_of : (BeginsAlone asker limit entries → ⊥) → (caught : Caught) × Catches tables asker limit entries caught
   merged_of away =
       let run = search_run (length entries) 0 (omega arith) none_each in
       let may = run.1.each run.0 (omega arith) in
       (Merged run.0 may.short.0, (away, run.1, may.short.1))
 
-begins_or_not : (asker limit : ℕ) (entries : List LogEntry) → BeginsWithOwn asker limit entries ⊎ (BeginsWithOwn asker limit entries → ⊥)
+begins_or_not : (asker limit : ℕ) (entries : List LogEntry) → BeginsAlone asker limit entries ⊎ (BeginsAlone asker limit entries → ⊥)
 begins_or_not asker limit [] = inr (λ begins. let no = begins.first in cc)
 begins_or_not asker limit (first ∷ rest) =
     elim (le_or limit 0) [
       | inl none ↦ inr (λ begins. omega (arith, none, begins.some))
       | inr some ↦ elim (alone_or_not asker first) [
-        | inl own ↦ inl (record { some = some; entry = first; first = refl; own = own })
-        | inr other ↦ inr (λ begins. other (subst (IsToldAlone asker) (sym (same_Some first begins.entry begins.first)) begins.own))
+        | inl own ↦ inl (record { some = some; entry = first; first = refl; alone = own })
+        | inr other ↦ inr (λ begins. other (subst (IsToldAlone asker) (sym (same_Some first begins.entry begins.first)) begins.alone))
       ]
     ]
 
 pub catch_has_answer : Joins → CatchHasAnswer
-catch_has_answer laws tables asker limit entries are all =
+catch_has_answer laws tables asker limit entries are fit =
     elim (begins_or_not asker limit entries) [
-      | inl begins ↦ (Own, begins)
-      | inr not ↦ merged_of laws tables asker limit entries are all not
+      | inl begins ↦ (Alone, begins)
+      | inr not ↦ merged_of laws tables asker limit entries are fit not
     ]

@@ -29,13 +29,13 @@ no_change : (changes : List TableChanges) → OrNot (changes ≡ [])
 no_change [] = inl refl
 no_change (first ∷ others) = inr (λ is. cc)
 
-is_below : (a b : ℕ) → OrNot (a < b)
+pub is_below : (a b : ℕ) → OrNot (a < b)
 is_below a b = elim (cases_lt a b) [ inl lt ↦ inl lt | inr ge ↦ inr (λ lt. omega arith) ]
 
-is_within : (a b : ℕ) → OrNot (a ≤ b)
+pub is_within : (a b : ℕ) → OrNot (a ≤ b)
 is_within a b = elim (cases_lt b a) [ inl lt ↦ inr (λ le. omega arith) | inr le ↦ inl le ]
 
-same_number : (a b : ℕ) → OrNot (a ≡ b)
+pub same_number : (a b : ℕ) → OrNot (a ≡ b)
 same_number a b = elim (eqb_tells a b) [ inl (e, is) ↦ inl is | inr (e, ne) ↦ inr ne ]
 
 same_body : OneBody → (tables : List TableDef) (a b : Body) → AreTables tables → AreChangesOf tables (changes_of_body a) → AreChangesOf tables (changes_of_body b) → MayWiden tables a → MayWiden tables b → OrNot (a ≡ b)
@@ -82,13 +82,13 @@ found_entry one catalogs opening log push (Some kept) are each fits is =
 
 -- ---- so one case decides
 
-abbrev Told : Type 0
+abbrev pub Told : Type 0
 Told = Result Pushed HubFault
 
-abbrev Some2 : (Told → HubState → Type 0) → Type 0
+abbrev pub Some2 : (Told → HubState → Type 0) → Type 0
 Some2 holds = (answer : Told) × (new : HubState) × holds answer new
 
-in_case : {guard : Type 0} (below : Told → HubState → Type 0) (told : Told) (after : HubState) → OrNot guard → ((guard → ⊥) → Some2 below) → Some2 (λ answer new. Case guard ((answer ≡ told) × (new ≡ after)) (below answer new))
+pub in_case : {guard : Type 0} (below : Told → HubState → Type 0) (told : Told) (after : HubState) → OrNot guard → ((guard → ⊥) → Some2 below) → Some2 (λ answer new. Case guard ((answer ≡ told) × (new ≡ after)) (below answer new))
 in_case below told after (inl holds) other = (told, after, inl (holds, (refl, refl)))
 in_case below told after (inr not) other =
     let rest = other not in

@@ -11,13 +11,13 @@ use Rattle.cs_hub.specs.declared.judgement.fault.HubFault.TheVariants.{Conflict 
 use Rattle.cs_hub.specs.declared.judgement.push.Pushed.{Pushed}
 
 -- two cases over the same guard decide alike, where what they decide and what stands below them does
-one_case : {guard some below other beneath R : Type 0} → (some → other → R) → (below → beneath → R) → Case guard some below → Case guard other beneath → R
+pub one_case : {guard some below other beneath R : Type 0} → (some → other → R) → (below → beneath → R) → Case guard some below → Case guard other beneath → R
 one_case decided left (inl (g, s)) (inl (h, o)) = decided s o
 one_case decided left (inl (g, s)) (inr (n, b)) = absurd (n g)
 one_case decided left (inr (n, b)) (inl (g, s)) = absurd (n g)
 one_case decided left (inr (n, b)) (inr (m, c)) = left b c
 
-same : {A B : Type 0} {one other is : A} {new last left : B} → (one ≡ is) × (new ≡ left) → (other ≡ is) × (last ≡ left) → (one ≡ other) × (new ≡ last)
+pub same : {A B : Type 0} {one other is : A} {new last left : B} → (one ≡ is) × (new ≡ left) → (other ≡ is) × (last ≡ left) → (one ≡ other) × (new ≡ last)
 same (a, n) (b, m) = (a ∙ sym b, n ∙ sym m)
 
 -- so does the first conflict

@@ -10,10 +10,10 @@ use Rattle.cs_normal.specs.declared.normal.TableChanges.{TableChanges}
 use Rattle.cs_store.specs.log.Entry.{entry_changes}
 use Rattle.cs_store.specs.declared.log.entry.LogEntry.{LogEntry}
 use Rattle.cs_hub.specs.log_reading.Steps.{AreOthers}
-use Rattle.cs_hub.specs.catching.Catches.{BeginsWithOwn, Catches, IsToldAlone, MayBeOne, NoneIsAlone}
+use Rattle.cs_hub.specs.catching.Catches.{BeginsAlone, Catches, IsToldAlone, MayBeOne, NoneIsAlone}
 use Rattle.cs_hub.specs.catching.Consolidated.{AreOne, AreShort}
 use Rattle.cs_hub.specs.catching.Runs.{IsRunOf}
-use Rattle.cs_hub.specs.declared.catching.caught.Caught.TheVariants.{Merged, Own}
+use Rattle.cs_hub.specs.declared.catching.caught.Caught.TheVariants.{Alone, Merged}
 use Rattle.cs_hub.proofs.CatchingLemmas.Runs.{IsNotAlone, le_or}
 
 -- an entry among the first so many isn't the asker's, where none of these is
@@ -91,7 +91,7 @@ module _ (tables : List TableDef) (asker limit asked : ℕ) (entries : List LogE
         let inside = slice_get_within entries 0 begins.entry begins.first in
         let one : 0 < length list = some (omega (arith, least, begins.some, inside)) in
         let all = recursion_from_All (IsNotAlone asker) (take 1 entries) (others_in 1 (omega (arith, one))) in
-        first_not entries begins.entry begins.first all begins.own,
+        first_not entries begins.entry begins.first all begins.alone,
     record {
       there = omega (arith, run.run.there, within_asked, least);
       each = λ n less. may n (omega (arith, less, run.run.there)) (run.run.each n less);
@@ -107,11 +107,11 @@ module _ (tables : List TableDef) (asker limit asked : ℕ) (entries : List LogE
       first_not [] x is all own = absurd cc
       first_not (y ∷ xs) x is all own = all.0 (subst (IsToldAlone asker) (sym (same_Some y x is)) own)
 
-  pub own_told : 0 < asked → length list ≡ 0 → Catches tables asker limit entries Own
+  pub own_told : 0 < asked → length list ≡ 0 → Catches tables asker limit entries Alone
   own_told some none = first_own entries refl
     where
-      first_own : (xs : List LogEntry) → xs ≡ entries → BeginsWithOwn asker limit entries
+      first_own : (xs : List LogEntry) → xs ≡ entries → BeginsAlone asker limit entries
       first_own [] is = absurd (omega (arith, some, least, ap length is))
       first_own (x ∷ xs) is =
           let at : slice_get (take asked entries) (length list) ≡ Some x = subst (λ (es : List LogEntry). slice_get (take asked es) (length list) ≡ Some x) is (head_of asked (length list) x xs some none) in
-          record { some = omega (arith, some, least); entry = x; first = ap (λ (es : List LogEntry). slice_get es 0) (sym is); own = read.ends x at }
+          record { some = omega (arith, some, least); entry = x; first = ap (λ (es : List LogEntry). slice_get es 0) (sym is); alone = read.ends x at }

@@ -6,7 +6,9 @@ use Rattle.std.proofs.lemmas.List.{append_assoc, flat_map_more, length-drop, len
 use Rattle.std.proofs.lemmas.Option.{same_Some}
 use Rattle.cs_value.specs.Catalog.{AreTables}
 use Rattle.cs_value.specs.declared.catalog.TableDef.{TableDef}
-use Rattle.cs_store.specs.log.Laws.{CatalogStays, OneBody}
+use Rattle.cs_store.specs.log.Laws.{CatalogNext, OneBody}
+use Rattle.cs_store.specs.log.Log.{catalog_next}
+use Rattle.cs_store.specs.log.Widens.{CatalogByWidens}
 use Rattle.cs_store.specs.log.Stored.{IsEntryOf}
 use Rattle.cs_store.specs.declared.log.entry.LogEntry.{LogEntry}
 use Rattle.cs_store.specs.declared.log.fault.BodyFault.{BodyFault}
@@ -25,29 +27,31 @@ use Rattle.cs_wire.specs.Entries.{ToldEntry, entry_spelling}
 use Rattle.cs_wire.specs.Numbers.{eight_bytes, four_bytes}
 use Rattle.cs_wire.specs.Told.{told_entry}
 use Rattle.cs_hub.specs.log_store.Shows.{ShowsLog, item_of_entry}
+use Rattle.cs_hub.specs.log_store.Versions.{ShowsBy, Versions, tables_by}
 use Rattle.cs_hub.proofs.LogStoreLemmas.OneLog.{one_entry}
-use Rattle.cs_hub.specs.log_reading.Reading.{ShowsEntries}
+use Rattle.cs_hub.proofs.LogStoreLemmas.Versions.{tables_shown}
+use Rattle.cs_hub.specs.log_reading.Reading.{ShowsEntries, ShowsEntriesBy}
 use Rattle.cs_hub.specs.log_reading.Steps.{AreStoredAs, AreToldAs, HasRange, IsStoredAs, IsToldAs, ReadsAs}
 
 -- ---- an entry is told by what is stored of it
 
--- an entry of a log that is shown fits the tables that the log opened with: by these it is read
-pub fits_at : CatalogStays → (opening : List TableDef) (contents : Contents) (log : List LogEntry) → ShowsLog opening contents log → (version : ℕ) (entry : LogEntry) → slice_get log version ≡ Some entry → IsEntryOf opening entry
-fits_at stays opening contents log shows version entry is =
-    subst (λ (tables : List TableDef). IsEntryOf tables entry) (stays opening log version shows.is_log) (shows.fit version entry is)
+-- an entry of a log that is shown fits the tables at its version: by these it is read
+pub fits_at : CatalogByWidens → (versions : Versions) (contents : Contents) (log : List LogEntry) → ShowsBy versions contents log → (version : ℕ) (entry : LogEntry) → slice_get log version ≡ Some entry → IsEntryOf (tables_by versions version) entry
+fits_at law versions contents log shows version entry is =
+    subst (λ (tables : List TableDef). IsEntryOf tables entry) (sym (tables_shown law versions log shows.2 version)) (shows.0.fit version entry is)
 
-found_in : OneBody → (opening : List TableDef) → AreTables opening → (entry : LogEntry) → IsEntryOf opening entry → (found : Option LogEntry)
-    → ((other : LogEntry) → found ≡ Some other → IsEntryOf opening other) → option_map item_of_entry found ≡ Some (item_of_entry entry) → found ≡ Some entry
-found_in law opening are entry fits None others is = absurd (let no = is in cc)
-found_in law opening are entry fits (Some other) others is =
-    ap (λ (e : LogEntry). Some e) (one_entry law opening are other entry (others other refl) fits (same_Some (item_of_entry other) (item_of_entry entry) is))
+found_in : OneBody → (tables : List TableDef) → AreTables tables → (entry : LogEntry) → IsEntryOf tables entry → (found : Option LogEntry)
+    → ((other : LogEntry) → found ≡ Some other → IsEntryOf tables other) → option_map item_of_entry found ≡ Some (item_of_entry entry) → found ≡ Some entry
+found_in law tables are entry fits None others is = absurd (let no = is in cc)
+found_in law tables are entry fits (Some other) others is =
+    ap (λ (e : LogEntry). Some e) (one_entry law tables are other entry (others other refl) fits (same_Some (item_of_entry other) (item_of_entry entry) is))
 
 -- what is stored as an entry is that entry of the log
-pub has_it : CatalogStays → OneBody → (opening : List TableDef) → AreTables opening → (contents : Contents) (log : List LogEntry) → ShowsLog opening contents log → (version : ℕ) (entry : LogEntry) → IsEntryOf opening entry
+pub has_it : CatalogByWidens → OneBody → (versions : Versions) (version : ℕ) → AreTables (tables_by versions version) → (contents : Contents) (log : List LogEntry) → ShowsBy versions contents log → (entry : LogEntry) → IsEntryOf (tables_by versions version) entry
     → (item : LogItem) → log_entry contents version ≡ Some item → item ≡ item_of_entry entry → slice_get log version ≡ Some entry
-has_it stays law opening are contents log shows version entry fits item at is =
-    found_in law opening are entry fits (slice_get log version) (λ other there. fits_at stays opening contents log shows version other there)
-    (sym (shows.entries.stored version) ∙ at ∙ ap (λ (i : LogItem). Some i) is)
+has_it by law versions version are contents log shows entry fits item at is =
+    found_in law (tables_by versions version) are entry fits (slice_get log version) (λ other there. fits_at by versions contents log shows version other there)
+    (sym (shows.0.entries.stored version) ∙ at ∙ ap (λ (i : LogItem). Some i) is)
 
 -- an entry of the log is stored
 pub stored_as : (opening : List TableDef) (contents : Contents) (log : List LogEntry) → ShowsLog opening contents log → (version : ℕ) (entry : LogEntry) → slice_get log version ≡ Some entry
@@ -67,22 +71,29 @@ cut_at [] i less = absurd (omega (arith, less))
 cut_at (x ∷ xs) zero less = (x, refl, refl)
 cut_at (x ∷ xs) (suc i) less = let rest = cut_at xs i (omega (arith, less)) in (rest.0, rest.1, rest.2)
 
-pub are_stored : CatalogStays → (opening : List TableDef) (contents : Contents) (log : List LogEntry) → ShowsLog opening contents log → (first count : ℕ) → first + count ≤ length log
-    → AreStoredAs opening (log_range contents first count) (take count (drop first log))
-are_stored stays opening contents log shows first zero within = tt
-are_stored stays opening contents log shows first (suc count) within =
+-- what an entry makes of the tables at its version are those at the next
+next_tables : CatalogByWidens → CatalogNext → (versions : Versions) (contents : Contents) (log : List LogEntry) → ShowsBy versions contents log → (version : ℕ) (entry : LogEntry) → slice_get log version ≡ Some entry
+    → tables_by versions (version + 1) ≡ catalog_next (tables_by versions version) entry
+next_tables law leads versions contents log shows version entry is =
+    tables_shown law versions log shows.2 (version + 1) ∙ leads versions.opening log version entry is
+    ∙ ap (λ (tables : List TableDef). catalog_next tables entry) (sym (tables_shown law versions log shows.2 version))
+
+pub are_stored : CatalogByWidens → CatalogNext → (versions : Versions) (contents : Contents) (log : List LogEntry) → ShowsBy versions contents log → (first count : ℕ) → first + count ≤ length log
+    → AreStoredAs (tables_by versions) first (log_range contents first count) (take count (drop first log))
+are_stored law leads versions contents log shows first zero within = tt
+are_stored law leads versions contents log shows first (suc count) within =
     let at = cut_at log first (omega (arith, within)) in
     let next : suc first ≡ first + 1 = omega arith in
-    let one : IsStoredAs opening (item_of_entry at.0) at.0 = record { is = refl; fits = fits_at stays opening contents log shows first at.0 at.1 } in
-    subst (λ (es : List LogEntry). AreStoredAs opening (log_range contents first (suc count)) (take (suc count) es)) (sym (at.2 ∙ ap (λ (n : ℕ). at.0 ∷ drop n log) next))
-    (subst (λ (o : Option LogItem). AreStoredAs opening (entry_before o (log_range contents (first + 1) count)) (at.0 ∷ take count (drop (first + 1) log))) (sym (stored_as opening contents log shows first at.0 at.1))
-    (one, are_stored stays opening contents log shows (first + 1) count (omega (arith, within))))
+    let one : IsStoredAs (tables_by versions first) (item_of_entry at.0) at.0 = record { is = refl; fits = fits_at law versions contents log shows first at.0 at.1 } in
+    subst (λ (es : List LogEntry). AreStoredAs (tables_by versions) first (log_range contents first (suc count)) (take (suc count) es)) (sym (at.2 ∙ ap (λ (n : ℕ). at.0 ∷ drop n log) next))
+    (subst (λ (o : Option LogItem). AreStoredAs (tables_by versions) first (entry_before o (log_range contents (first + 1) count)) (at.0 ∷ take count (drop (first + 1) log))) (sym (stored_as versions.opening contents log shows.0 first at.0 at.1))
+    (one, next_tables law leads versions contents log shows first at.0 at.1, are_stored law leads versions contents log shows (first + 1) count (omega (arith, within))))
 
-pub same_length : (opening : List TableDef) (items : List LogItem) (entries : List LogEntry) → AreStoredAs opening items entries → length items ≡ length entries
-same_length opening [] [] are = refl
-same_length opening [] (e ∷ es) are = absurd are
-same_length opening (i ∷ is) [] are = absurd are
-same_length opening (i ∷ is) (e ∷ es) are = let rest = same_length opening is es are.1 in omega (arith, rest)
+pub same_length : (tables : ℕ → List TableDef) (version : ℕ) (items : List LogItem) (entries : List LogEntry) → AreStoredAs tables version items entries → length items ≡ length entries
+same_length tables version [] [] are = refl
+same_length tables version [] (e ∷ es) are = absurd are
+same_length tables version (i ∷ is) [] are = absurd are
+same_length tables version (i ∷ is) (e ∷ es) are = let rest = same_length tables (version + 1) is es are.2 in omega (arith, rest)
 
 pub range_length : (first count : ℕ) (log : List LogEntry) → first + count ≤ length log → length (take count (drop first log)) ≡ count
 range_length first count log within = length-take-le count (drop first log) (omega (arith, within, length-drop first log))
@@ -111,6 +122,10 @@ has_range opening contents first count some =
     ∙ length-map (take count (drop first some.0)) told_entry
     ∙ range_length first count some.0 some.2
 
+-- so has a log that has these tables at its versions
+pub has_range_by : (versions : Versions) (contents : Contents) (first count : ℕ) → ShowsEntriesBy versions contents first count → HasRange contents first count
+has_range_by versions contents first count some = has_range versions.opening contents first count (some.0, some.1.0, some.2)
+
 -- ---- one more of those that are stored
 
 -- the one at a place, with which one more is taken
@@ -126,14 +141,16 @@ told_there (s ∷ ss) (t ∷ ts) (suc at) v less are =
     let rest = told_there ss ts at v (omega (arith, less)) are.1 in
     let within = rest.2 in (rest.0, rest.1, omega (arith, within), rest.3)
 
-pub stored_there : (opening : List TableDef) (stored : List StoredEntry) (entries : List LogEntry) (at : ℕ) (v : StoredEntry) → at < length stored → AreStoredAs opening (items_of stored) entries
-    → (entry : LogEntry) × IsStoredAs opening (item_of (get_or stored at v)) entry × (at < length entries) × (get_or entries at entry ≡ entry)
-stored_there opening [] entries at v less are = absurd (omega (arith, less))
-stored_there opening (s ∷ ss) [] at v less are = absurd are
-stored_there opening (s ∷ ss) (e ∷ es) zero v less are = (e, are.0, omega arith, refl)
-stored_there opening (s ∷ ss) (e ∷ es) (suc at) v less are =
-    let rest = stored_there opening ss es at v (omega (arith, less)) are.1 in
-    let within = rest.2 in (rest.0, rest.1, omega (arith, within), rest.3)
+pub stored_there : (tables : ℕ → List TableDef) (version : ℕ) (stored : List StoredEntry) (entries : List LogEntry) (at : ℕ) (v : StoredEntry) → at < length stored → AreStoredAs tables version (items_of stored) entries
+    → (entry : LogEntry) × IsStoredAs (tables (version + at)) (item_of (get_or stored at v)) entry × (at < length entries) × (get_or entries at entry ≡ entry)
+stored_there tables version [] entries at v less are = absurd (omega (arith, less))
+stored_there tables version (s ∷ ss) [] at v less are = absurd are
+stored_there tables version (s ∷ ss) (e ∷ es) zero v less are =
+    (e, subst (λ (n : ℕ). IsStoredAs (tables n) (item_of s) e) (let here : version ≡ version + 0 = omega arith in here) are.0, omega arith, refl)
+stored_there tables version (s ∷ ss) (e ∷ es) (suc at) v less are =
+    let rest = stored_there tables (version + 1) ss es at v (omega (arith, less)) are.2 in
+    let within = rest.2 in
+    (rest.0, subst (λ (n : ℕ). IsStoredAs (tables n) (item_of (get_or ss at v)) rest.0) (let next : (version + 1) + at ≡ version + suc at = omega arith in next) rest.1, omega (arith, within), rest.3)
 
 pub told_at : (stored : List StoredEntry) (tolds : List ToldEntry) (at : ℕ) (v : StoredEntry) → at < length stored → v ≡ get_or stored at v → AreToldAs (items_of stored) tolds
     → One (IsToldAs (item_of v)) tolds at
@@ -144,12 +161,12 @@ told_at stored tolds at v less is are =
       take_more tolds at there.0 there.2 ∙ ap (λ (t : ToldEntry). take at tolds ++ t ∷ []) there.3,
     )
 
-pub stored_at : (opening : List TableDef) (stored : List StoredEntry) (entries : List LogEntry) (at : ℕ) (v : StoredEntry) → at < length stored → v ≡ get_or stored at v
-    → AreStoredAs opening (items_of stored) entries → One (IsStoredAs opening (item_of v)) entries at
-stored_at opening stored entries at v less is are =
-    let there = stored_there opening stored entries at v less are in (
+pub stored_at : (tables : ℕ → List TableDef) (version : ℕ) (stored : List StoredEntry) (entries : List LogEntry) (at : ℕ) (v : StoredEntry) → at < length stored → v ≡ get_or stored at v
+    → AreStoredAs tables version (items_of stored) entries → One (IsStoredAs (tables (version + at)) (item_of v)) entries at
+stored_at tables version stored entries at v less is are =
+    let there = stored_there tables version stored entries at v less are in (
       there.0,
-      subst (λ (s : StoredEntry). IsStoredAs opening (item_of s) there.0) (sym is) there.1,
+      subst (λ (s : StoredEntry). IsStoredAs (tables (version + at)) (item_of s) there.0) (sym is) there.1,
       take_more entries at there.0 there.2 ∙ ap (λ (e : LogEntry). take at entries ++ e ∷ []) there.3,
     )
 
@@ -159,11 +176,11 @@ told_all [] (t ∷ ts) are = absurd are
 told_all (s ∷ ss) [] are = absurd are
 told_all (s ∷ ss) (t ∷ ts) are = ap (λ (xs : List ToldEntry). t ∷ xs) (told_all ss ts are.1)
 
-stored_all : (opening : List TableDef) (stored : List StoredEntry) (entries : List LogEntry) → AreStoredAs opening (items_of stored) entries → take (length stored) entries ≡ entries
-stored_all opening [] [] are = refl
-stored_all opening [] (e ∷ es) are = absurd are
-stored_all opening (s ∷ ss) [] are = absurd are
-stored_all opening (s ∷ ss) (e ∷ es) are = ap (λ (xs : List LogEntry). e ∷ xs) (stored_all opening ss es are.1)
+stored_all : (tables : ℕ → List TableDef) (version : ℕ) (stored : List StoredEntry) (entries : List LogEntry) → AreStoredAs tables version (items_of stored) entries → take (length stored) entries ≡ entries
+stored_all tables version [] [] are = refl
+stored_all tables version [] (e ∷ es) are = absurd are
+stored_all tables version (s ∷ ss) [] are = absurd are
+stored_all tables version (s ∷ ss) (e ∷ es) are = ap (λ (xs : List LogEntry). e ∷ xs) (stored_all tables (version + 1) ss es are.2)
 
 -- what is written of the entries told so far, with one more, and of all
 pub put_more : (at : ℕ) (tolds : List ToldEntry) (told : ToldEntry) (old before now : List ℕ) → take (at + 1) tolds ≡ take at tolds ++ told ∷ [] → before ≡ old ++ flat_map entry_spelling (take at tolds)
@@ -188,8 +205,8 @@ pub unread : {T : Type 0} (entry : LogEntry) (fault : BodyFault) → ReadsAs ent
 unread entry Memory reads is = let no = err_is Memory NoBody is in cc
 unread entry NoBody reads is = reads
 
-pub read_all : (opening : List TableDef) (at : ℕ) (stored : List StoredEntry) (entries read : List LogEntry) → at ≡ length stored → AreStoredAs opening (items_of stored) entries → read ≡ take at entries → read ≡ entries
-read_all opening at stored entries read end are is = is ∙ ap (λ (n : ℕ). take n entries) end ∙ stored_all opening stored entries are
+pub read_all : (tables : ℕ → List TableDef) (version at : ℕ) (stored : List StoredEntry) (entries read : List LogEntry) → at ≡ length stored → AreStoredAs tables version (items_of stored) entries → read ≡ take at entries → read ≡ entries
+read_all tables version at stored entries read end are is = is ∙ ap (λ (n : ℕ). take n entries) end ∙ stored_all tables version stored entries are
 
 -- ---- the answer
 

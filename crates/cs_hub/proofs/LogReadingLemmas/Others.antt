@@ -1,9 +1,9 @@
 -- Entries that may be told as one, which were read so far.
-use Rattle.std.proofs.Common.{◌≡◌, ◌+◌, ◌≤◌, ◌<◌, ◌∙◌, ◌++◌, ◌∷◌, [], ℕ, List, Some, get_or, length, map, take, sym, ap, subst, arith}
+use Rattle.std.proofs.Common.{◌≡◌, ◌+◌, ◌≤◌, ◌<◌, ◌∙◌, ◌++◌, ◌∷◌, [], ℕ, zero, suc, List, Some, get_or, length, map, take, sym, ap, subst, arith}
 use Rattle.std.specs.Prelude.{slice_get}
-use Rattle.std.specs.List.{All, sum_by}
+use Rattle.std.specs.List.{All, AllByRecursion, sum_by}
 use Rattle.std.proofs.lemmas.List.{length-map, length-take-le, map-append}
-use Rattle.std.proofs.lemmas.List.Elements.{All-push}
+use Rattle.std.proofs.lemmas.List.Elements.{All-push, recursion_from_All}
 use Rattle.std.proofs.lemmas.List.Sums.{sum_by_push}
 use Rattle.std.proofs.lemmas.Option.{get_or_from_slice_get, slice_get_within}
 use Rattle.cs_value.specs.declared.catalog.TableDef.{TableDef}
@@ -20,8 +20,9 @@ use Rattle.cs_store.specs.log.Entry.{changes_of_body, entry_changes}
 use Rattle.cs_store.specs.log.Stored.{AreChangesOf, stored_body}
 use Rattle.cs_hub.specs.catching.Catches.{IsToldAlone, NoneIsAlone}
 use Rattle.cs_hub.specs.log_reading.Steps.{AreOthers, AreStoredAs, IsStoredAs}
+use Rattle.cs_hub.proofs.CatchingLemmas.Plain.{kept_by, plain_of}
 use Rattle.cs_hub.proofs.CatchingLemmas.Runs.{IsNotAlone}
-use Rattle.cs_hub.proofs.LogReadingLemmas.Found.{same_length, stored_there}
+use Rattle.cs_hub.proofs.LogReadingLemmas.Found.{same_length, stored_at, stored_there}
 
 -- the changesets of the first so many entries, none of which is told alone
 pub record AreOthersSoFar (asker at : ℕ) (entries : List LogEntry) (list : List (List TableChanges)) : Type 0 where
@@ -50,23 +51,43 @@ front_of asker at entries list within so_far ends =
     }
 
 -- all of them
-pub all_others : (opening : List TableDef) (asker at : ℕ) (stored : List StoredEntry) (entries : List LogEntry) (list : List (List TableChanges)) → at ≡ length stored → AreStoredAs opening (items_of stored) entries
+pub all_others : (tables : ℕ → List TableDef) (first asker at : ℕ) (stored : List StoredEntry) (entries : List LogEntry) (list : List (List TableChanges)) → at ≡ length stored → AreStoredAs tables first (items_of stored) entries
     → AreOthersSoFar asker at entries list → AreOthers asker entries list
-all_others opening asker at stored entries list all are so_far =
-    let long : length entries ≡ at = sym (same_length opening (items_of stored) entries are) ∙ length-map stored item_of ∙ sym all in
+all_others tables first asker at stored entries list all are so_far =
+    let long : length entries ≡ at = sym (same_length tables first (items_of stored) entries are) ∙ length-map stored item_of ∙ sym all in
     front_of asker at entries list (omega (arith, long)) so_far
     (λ entry there. absurd (let inside = slice_get_within entries at entry there in omega (arith, inside, long)))
 
--- those before the first that is told alone
-pub others_before : (opening : List TableDef) (asker at : ℕ) (stored : List StoredEntry) (entries : List LogEntry) (list : List (List TableChanges)) (item : StoredEntry) (read : LogEntry) → at < length stored
-    → item ≡ get_or stored at item → AreStoredAs opening (items_of stored) entries → ((entry : LogEntry) → IsStoredAs opening (item_of item) entry → read ≡ entry) → IsToldAlone asker read
-    → AreOthersSoFar asker at entries list → AreOthers asker entries list
-others_before opening asker at stored entries list item read less is are only alone so_far =
-    let there = stored_there opening stored entries at item less are in
-    let within = there.2 in
-    let same = only there.0 (subst (λ (s : StoredEntry). IsStoredAs opening (item_of s) there.0) (sym is) there.1) in
-    front_of asker at entries list (omega (arith, within)) so_far
-    (λ entry at_it. subst (IsToldAlone asker) (same ∙ sym there.3 ∙ get_or_from_slice_get entries at entry there.0 at_it) alone)
+-- the tables stay as long as none is told alone
+tables_stay : (asker : ℕ) (tables : ℕ → List TableDef) (first : ℕ) (items : List LogItem) (entries : List LogEntry) (at : ℕ) → at ≤ length entries → AreStoredAs tables first items entries → AllByRecursion (IsNotAlone asker) (take at entries) → tables (first + at) ≡ tables first
+tables_stay asker tables first items entries zero within are others = ap tables (let e : first + 0 ≡ first = omega arith in e)
+tables_stay asker tables first items [] (suc at) within are others = absurd (omega (arith, within))
+tables_stay asker tables first [] (e ∷ es) (suc at) within are others = absurd are
+tables_stay asker tables first (i ∷ is) (e ∷ es) (suc at) within are others =
+    ap tables (let n : first + suc at ≡ (first + 1) + at = omega arith in n)
+    ∙ tables_stay asker tables (first + 1) is es at (omega (arith, within)) are.2 others.1
+    ∙ are.1 ∙ kept_by (tables first) e.body (plain_of asker e others.0)
+
+-- what was read so far is others', all of the tables at the first
+module _ (tables : ℕ → List TableDef) (first : ℕ) (catalog : List TableDef) (same : tables first ≡ catalog) (asker at : ℕ) (stored : List StoredEntry) (entries : List LogEntry) (list : List (List TableChanges)) (item : StoredEntry)
+    (less : at < length stored) (is : item ≡ get_or stored at item) (are : AreStoredAs tables first (items_of stored) entries) (so_far : AreOthersSoFar asker at entries list) where
+  -- the next one is stored by these
+  pub next_stored : (entry : LogEntry) × IsStoredAs catalog (item_of item) entry × (take (at + 1) entries ≡ take at entries ++ entry ∷ [])
+  next_stored =
+      let there = stored_at tables first stored entries at item less is are in
+      let within = (stored_there tables first stored entries at item less are).2 in
+      let here = tables_stay asker tables first (items_of stored) entries at (let w : at ≤ length entries = omega (arith, within) in w) are (recursion_from_All (IsNotAlone asker) (take at entries) so_far.others) in
+      (there.0, subst (λ (t : List TableDef). IsStoredAs t (item_of item) there.0) (here ∙ same) there.1, there.2)
+
+  -- those before the first that is told alone
+  pub others_before : (read : LogEntry) → ((entry : LogEntry) → IsStoredAs catalog (item_of item) entry → read ≡ entry) → IsToldAlone asker read → AreOthers asker entries list
+  others_before read only alone =
+      let there = stored_there tables first stored entries at item less are in
+      let within = there.2 in
+      let here = tables_stay asker tables first (items_of stored) entries at (let w : at ≤ length entries = omega (arith, within) in w) are (recursion_from_All (IsNotAlone asker) (take at entries) so_far.others) in
+      let read_is = only there.0 (subst (λ (t : List TableDef). IsStoredAs t (item_of item) there.0) (here ∙ same) (subst (λ (s : StoredEntry). IsStoredAs (tables (first + at)) (item_of s) there.0) (sym is) there.1)) in
+      front_of asker at entries list (omega (arith, within)) so_far
+      (λ entry at_it. subst (IsToldAlone asker) (read_is ∙ sym there.3 ∙ get_or_from_slice_get entries at entry there.0 at_it) alone)
 
 -- ---- their bytes
 

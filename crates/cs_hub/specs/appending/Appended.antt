@@ -15,6 +15,7 @@ use Rattle.cs_store.specs.Written.{after_batch}
 use Rattle.cs_store.specs.declared.batch.Batch.{Batch}
 use Rattle.cs_apply.specs.Calls.{IsStoppedAt}
 use Rattle.cs_hub.specs.log_store.Shows.{ShowsLog}
+use Rattle.cs_hub.specs.log_store.Versions.{ShowsBy, Versions}
 use Rattle.cs_hub.specs.declared.appending.fault.AppendFault.{AppendFault}
 use Rattle.cs_hub.specs.declared.appending.fault.AppendFault.TheVariants.{Memory, Conflict as OnConflict, Device}
 
@@ -28,14 +29,14 @@ abbrev pub IsFirstConflict : List TableDef → List TableChanges → State → C
 IsFirstConflict tables changes before conflict = IsStoppedAt aborts tables (groups_of changes) before tt Abort conflict tt
 
 -- contents after the entry is appended: it is defined behind the log that was shown, and the longer log is shown
-abbrev pub IsAppendedIn : List TableDef → LogEntry → Contents → Contents → Type 0
-IsAppendedIn opening entry old new =
-    (log : List LogEntry) → ShowsLog opening old log
-    → IsNextEntry opening log entry × ShowsLog opening new (log ++ entry ∷ [])
+abbrev pub IsAppendedIn : Versions → LogEntry → Contents → Contents → Type 0
+IsAppendedIn versions entry old new =
+    (log : List LogEntry) → ShowsBy versions old log
+    → IsNextEntry versions.opening log entry × ShowsLog versions.opening new (log ++ entry ∷ [])
 
 -- a commit of the batch leaves contents in which the entry is appended
-abbrev pub AppendsEntry : List TableDef → LogEntry → Contents → Batch → Type 0
-AppendsEntry opening entry contents batch = IsAppendedIn opening entry contents (after_batch batch contents)
+abbrev pub AppendsEntry : Versions → LogEntry → Contents → Batch → Type 0
+AppendsEntry versions entry contents batch = IsAppendedIn versions entry contents (after_batch batch contents)
 
 -- why it isn't: it isn't defined behind the log, and this is the first conflict; Memory and Device may come before
 abbrev pub IsAppendFault : List TableDef → List LogEntry → LogEntry → AppendFault → Type 0

@@ -3,6 +3,8 @@ use Rattle.std.specs.Prelude.{◌≡◌, List, [], Some}
 use Rattle.cs_value.specs.declared.catalog.TableDef.{TableDef}
 use Rattle.cs_normal.specs.State.{State, IsApplied, IsDefinedOn}
 use Rattle.cs_normal.specs.declared.normal.TableChanges.{TableChanges}
+use Rattle.cs_store.specs.log.Log.{IsMade, catalog_after}
+use Rattle.cs_store.specs.declared.log.body.Body.{Body}
 use Rattle.cs_store.specs.declared.log.entry.LogEntry.{LogEntry}
 use Rattle.cs_store.specs.Contents.{Contents}
 use Rattle.cs_store.specs.States.{AreEdits}
@@ -18,6 +20,11 @@ use Rattle.cs_hub.specs.declared.appending.fault.AppendFault.TheVariants.{Memory
 abbrev pub IsTried : List TableDef → List TableChanges → Contents → State → List BodyEdit → Type 0
 IsTried tables changes contents before edits =
     (after : State) × IsApplied tables changes before after × AreEdits tables contents edits after
+
+-- what an entry does is made of the rows, and the edits lead to what it leaves. These are edits of the tables behind it
+abbrev pub IsMadeBy : List TableDef → Body → Contents → State → List BodyEdit → Type 0
+IsMadeBy tables body contents before edits =
+    (after : State) × IsMade tables body before after × AreEdits (catalog_after tables body) contents edits after
 
 -- it isn't defined, and this is the first conflict
 abbrev pub IsNotTried : List TableDef → List TableChanges → State → AppendFault → Type 0

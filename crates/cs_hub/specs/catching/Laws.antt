@@ -1,12 +1,12 @@
 -- The laws of catching up.
-use Rattle.std.specs.Prelude.{◌≡◌, ◌+◌, ◌≤◌, ℕ, List, All, drop, length, ◌++◌}
+use Rattle.std.specs.Prelude.{◌≡◌, ◌+◌, ◌≤◌, ℕ, List, All, drop, length, take, ◌++◌}
 use Rattle.cs_value.specs.Catalog.{AreTables}
 use Rattle.cs_value.specs.declared.catalog.TableDef.{TableDef}
 use Rattle.cs_normal.specs.Normal.{normal_spelling}
 use Rattle.cs_normal.specs.State.{IsApplied}
 use Rattle.cs_normal.specs.declared.normal.TableChanges.{TableChanges}
-use Rattle.cs_store.specs.log.Log.{IsLog, entries_between, tables_at}
-use Rattle.cs_store.specs.log.Entry.{entry_changes}
+use Rattle.cs_store.specs.log.Log.{IsLog, catalog_at, entries_between, tables_at}
+use Rattle.cs_store.specs.log.Entry.{WidensNone, entry_changes}
 use Rattle.cs_store.specs.log.Stored.{AreChangesOf}
 use Rattle.cs_store.specs.declared.log.entry.LogEntry.{LogEntry}
 use Rattle.cs_hub.specs.catching.Catches.{Catches}
@@ -33,24 +33,27 @@ OneCatch =
     → Catches tables asker limit entries other
     → some ≡ other
 
--- and is told something, of entries that change these tables
+-- and is told something, of entries that change these tables as long as none has widened one
 abbrev pub CatchHasAnswer : Type 0
 CatchHasAnswer =
     (tables : List TableDef) (asker limit : ℕ) (entries : List LogEntry)
     → AreTables tables
-    → All (λ entry. AreChangesOf tables (entry_changes entry)) entries
+    → ((count : ℕ) → All (λ entry. WidensNone entry.body) (take count entries)
+    → All (λ entry. AreChangesOf tables (entry_changes entry)) (take count entries))
     → (caught : Caught) × Catches tables asker limit entries caught
 
--- the entries of a log between two versions, as one changeset, lead from the tables at the first to those at the second
+-- the entries of a log between two versions, none of which widens a table, lead as one changeset from the tables at the first to
+-- those at the second
 abbrev pub ConsolidatedLeads : Type 0
 ConsolidatedLeads =
-    (tables : List TableDef) (log : List LogEntry) (from to : ℕ) (changes : List TableChanges)
-    → AreTables tables
-    → IsLog tables log
+    (opening : List TableDef) (log : List LogEntry) (from to : ℕ) (changes : List TableChanges)
+    → AreTables opening
+    → IsLog opening log
     → from ≤ to
     → to ≤ length log
-    → IsConsolidated tables (entries_between log from to) changes
-    → IsApplied tables changes (tables_at log from) (tables_at log to)
+    → All (λ entry. WidensNone entry.body) (entries_between log from to)
+    → IsConsolidated (catalog_at opening log from) (entries_between log from to) changes
+    → IsApplied (catalog_at opening log from) changes (tables_at log from) (tables_at log to)
 
 -- they are the same ones as the log grows
 abbrev pub SameEntries : Type 0

@@ -1,9 +1,9 @@
 -- A push that is judged over the store of a hub, and not yet taken. (Profile of this project.)
-use Rattle.std.specs.Prelude.{◌≡◌, ◌+◌, ◌<◌, ℕ, List, length, Result, Ok, Err}
+use Rattle.std.specs.Prelude.{◌≡◌, ◌+◌, ◌<◌, ℕ, List, Result, Ok, Err}
 use Rattle.cs_value.specs.declared.catalog.TableDef.{TableDef}
 use Rattle.cs_store.specs.declared.log.entry.LogEntry.{LogEntry}
 use Rattle.cs_store.specs.Contents.{Contents}
-use Rattle.cs_hub.specs.appending.Shows.{ShowsLog}
+use Rattle.cs_hub.specs.appending.Versions.{Versions}
 use Rattle.cs_hub.specs.appending.Appended.{AppendsEntry}
 use Rattle.cs_hub.specs.judgement.Hub.{HubState, with_entry}
 use Rattle.cs_hub.specs.judgement.Pushes.{Push, Pushes, PushesIf, entry_of_push}
@@ -11,10 +11,6 @@ use Rattle.cs_hub.specs.declared.judgement.fault.HubFault.{HubFault}
 use Rattle.cs_hub.specs.declared.judgement.push.Judgement.{Judgement}
 use Rattle.cs_hub.specs.declared.judgement.push.Judgement.TheVariants.{Told, Append}
 use Rattle.cs_hub.specs.declared.judgement.push.Pushed.TheVariants.{Accepted}
-
--- the store shows a log of so many entries
-abbrev pub ShowsLogOf : List TableDef → ℕ → Contents → Type 0
-ShowsLogOf opening count contents = (log : List LogEntry) × ShowsLog opening contents log × (count ≡ length log)
 
 -- the hub that opened with these tables and has this log
 abbrev pub hub_of : List TableDef → List LogEntry → HubState
@@ -32,6 +28,6 @@ IsOfPush limit count push (Told pushed) = Unit {0}
 IsOfPush limit count push (Append entry batch) = (entry ≡ entry_of_push push) × (push.head.base ≡ count) × (count < limit)
 
 -- a commit of its batch appends it
-abbrev pub CanBeAppended : List TableDef → Contents → Judgement → Type 0
-CanBeAppended opening contents (Told pushed) = Unit {0}
-CanBeAppended opening contents (Append entry batch) = AppendsEntry opening entry contents batch
+abbrev pub CanBeAppended : Versions → Contents → Judgement → Type 0
+CanBeAppended versions contents (Told pushed) = Unit {0}
+CanBeAppended versions contents (Append entry batch) = AppendsEntry versions entry contents batch

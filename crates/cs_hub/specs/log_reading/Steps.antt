@@ -1,7 +1,8 @@
 -- What single steps of reading a log find.
-use Rattle.std.specs.Prelude.{◌≡◌, ◌≤◌, ⊤, ℕ, pos, List, [], ◌∷◌, length, map, take, slice_get, Result, Some, Ok, Err}
+use Rattle.std.specs.Prelude.{◌≡◌, ◌+◌, ◌≤◌, ⊤, ℕ, pos, List, [], ◌∷◌, length, map, take, slice_get, Result, Some, Ok, Err}
 use Rattle.cs_normal.specs.declared.normal.TableChanges.{TableChanges}
 use Rattle.cs_store.specs.log.Entry.{entry_changes}
+use Rattle.cs_store.specs.log.Log.{catalog_next}
 use Rattle.cs_store.specs.log.Stored.{IsEntryOf}
 use Rattle.cs_store.specs.declared.log.entry.LogEntry.{LogEntry}
 use Rattle.cs_store.specs.declared.log.entry.TheConstants.{MAX_CHANGESET}
@@ -34,12 +35,14 @@ pub record IsStoredAs (opening : List TableDef) (stored : LogItem) (entry : LogE
   pub is : stored ≡ item_of_entry entry
   pub fits : IsEntryOf opening entry
 
--- so is each of a list
-abbrev pub AreStoredAs : List TableDef → List LogItem → List LogEntry → Type 0
-AreStoredAs opening [] [] = ⊤
-AreStoredAs opening [] (entry ∷ entries) = ⊥
-AreStoredAs opening (item ∷ items) [] = ⊥
-AreStoredAs opening (item ∷ items) (entry ∷ entries) = IsStoredAs opening item entry × AreStoredAs opening items entries
+-- so is each of a list, from a version on, by the tables there. What it makes of these are the tables at the next version
+abbrev pub AreStoredAs : (ℕ → List TableDef) → ℕ → List LogItem → List LogEntry → Type 0
+AreStoredAs tables version [] [] = ⊤
+AreStoredAs tables version [] (entry ∷ entries) = ⊥
+AreStoredAs tables version (item ∷ items) [] = ⊥
+AreStoredAs tables version (item ∷ items) (entry ∷ entries) =
+    IsStoredAs (tables version) item entry × (tables (version + 1) ≡ catalog_next (tables version) entry)
+    × AreStoredAs tables (version + 1) items entries
 
 -- the entry is read, or memory is wanting
 abbrev pub ReadsAs : LogEntry → Result LogEntry BodyFault → Type 0

@@ -45,7 +45,3 @@ pub record ShowsLog (opening : List TableDef) (contents : Contents) (log : List 
   pub pending : contents.pending ≡ empty
   pub values : HasHubValues opening contents
   pub entries : HasEntries contents log
-
--- the store is that of a hub with some log
-abbrev pub ShowsSomeLog : List TableDef → Contents → Type 0
-ShowsSomeLog opening contents = (log : List LogEntry) × ShowsLog opening contents log

@@ -25,15 +25,14 @@ pub fn catch_has_answer()
     cs_group::laws::some_join();
 }
 
-/// The entries of a log between two versions, taken together, lead from the tables at the one to those at the other.
+/// The entries of a log between two versions, where none widens a table, lead together from the tables at the one to those at the other.
 pub fn consolidated_leads()
     ensures { ConsolidatedLeads }
 {
     cs_group::laws::join_leads();
     cs_store::log::laws::plain_slices();
     cs_store::log::laws::log_states();
-    cs_store::log::laws::none_widens();
-    cs_store::log::laws::catalog_stays();
+    cs_store::log::laws::catalogs_are_tables();
 }
 
 /// What a replica that asks to catch up is told as one are entries of others', and the log's, also as that grows. It fits a message.

@@ -13,7 +13,7 @@ use cs_store::StoreFault;
 use std::alloc::{AllocError, AllocFailed};
 use thiserror::Error;
 
-/// Why the hub refuses a push or a pull. Nothing has changed then. The text is the name that programs print.
+/// Why the hub refuses a push, a pull, or a table's new columns. Nothing has changed then. The text is the name that programs print.
 #[derive(Debug, Drop, Error)]
 pub enum HubFault {
     /// Memory was refused. It may come before any other fault.
@@ -34,6 +34,9 @@ pub enum HubFault {
     /// The device that keeps the store failed, and its count of failures rose.
     #[error("Device")]
     Device,
+    /// No table has the name, or it can't get so many columns.
+    #[error("BadWiden")]
+    BadWiden,
 }
 
 impl From<AppendFault> for HubFault {

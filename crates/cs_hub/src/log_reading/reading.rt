@@ -4,15 +4,17 @@ ghost use Rattle.std.specs.Prelude.{◌≡◌, ◌↔◌, ◌+◌, ◌≤◌, �
 ghost use Rattle.cs_store.specs.log.Stored.{IsEntryOf, stored_body};
 ghost use Rattle.cs_store.specs.declared.log.entry.LogEntry.{LogEntry as Entry};
 ghost use Rattle.cs_store.specs.declared.log.fault.BodyFault.TheVariants.{NoBody};
-ghost use Rattle.cs_hub.specs.log_store.Shows.{ShowsLog, ShowsSomeLog, item_of_entry};
-ghost use Rattle.cs_hub.specs.log_reading.Reading.{ShowsEntries};
+ghost use Rattle.cs_hub.specs.log_store.Shows.{item_of_entry};
+ghost use Rattle.cs_hub.specs.log_store.Versions.{ShowsBy, ShowsSomeBy, tables_by};
+ghost use Rattle.cs_hub.specs.log_reading.Reading.{ShowsEntriesBy};
 ghost use Rattle.cs_hub.specs.log_reading.Steps.{AreStoredAs, HasRange, IsStoredAs, ReadsAs};
 ghost use Rattle.cs_pending.specs.Calls.{ReadsStore};
 ghost use Rattle.cs_store.specs.Contents.{log_range};
 ghost use Rattle.cs_store.specs.Written.{item_of, items_of};
 ghost use Rattle.cs_store.specs.declared.fault.StoreFault.TheVariants.{Device};
 
-use cs_store::log::laws::{catalog_stays, one_body};
+use crate::log_store::Catalogs;
+use cs_store::log::laws::{catalog_by_widens, catalog_next, one_body};
 use cs_store::log::{Body, BodyFault, LogEntry, put_body, read_body};
 use cs_store::{RowStore, StoreFault, StoredEntry};
 use cs_value::{Catalog, Memory};
@@ -65,23 +67,23 @@ fn is_entry(alloc: Global, stored: &StoredEntry, entry: &LogEntry) -> Result<boo
 pub fn has_entry<S: RowStore>(
     alloc: Global,
     store: &mut S,
-    catalog: &Catalog,
+    catalogs: &Catalogs,
     version: u32,
     entry: &LogEntry,
 ) -> Result<bool, StoreFault>
-    requires { IsEntryOf catalog.now entry.now }
+    requires { IsEntryOf (tables_by catalogs.now version) entry.now }
 
     // The store is only read.
     ensures reads { ReadsStore S.RowStore Device
-        (ShowsSomeLog catalog.now (S.contents store.old)) store.old store.new result }
+        (ShowsSomeBy catalogs.now (S.contents store.old)) store.old store.new result }
 
     // It says whether the log that the store shows has it there.
-    ensures told { S.honest store.new → (log : List Entry) → ShowsLog catalog.now (S.contents store.old) log
+    ensures told { S.honest store.new → (log : List Entry) → ShowsBy catalogs.now (S.contents store.old) log
         → IfOk result (λ has. IsTrue has ↔ (slice_get log version ≡ Some entry.now)) }
 {
     one_body();
-    catalog_stays();
-    let _tables = catalog.tables();
+    catalog_by_widens();
+    let _tables = catalogs.at(version as u64).tables();
     let stored = match store.log_get(version) {
         Ok(Some(stored)) => stored,
         Ok(None) => return Ok(false),
@@ -109,18 +111,19 @@ pub(crate) fn read_entry(
     })
 }
 
-/// The entries that are stored so.
+/// The entries that are stored so from a version on, each by the tables there.
 fn read_each(
     alloc: Global,
-    catalog: &Catalog,
+    catalogs: &Catalogs,
+    first: u32,
     stored: &[StoredEntry],
 ) -> Result<Vec<LogEntry>, BodyFault>
-    ensures read { (entries : List Entry) → AreStoredAs catalog.now (items_of stored.now) entries → IfOk result (λ read. read.items ≡ entries) }
-    ensures unread { (entries : List Entry) → AreStoredAs catalog.now (items_of stored.now) entries → result ≡ Err NoBody → ⊥ }
+    ensures read { (entries : List Entry) → AreStoredAs (tables_by catalogs.now) first (items_of stored.now) entries → IfOk result (λ read. read.items ≡ entries) }
+    ensures unread { (entries : List Entry) → AreStoredAs (tables_by catalogs.now) first (items_of stored.now) entries → result ≡ Err NoBody → ⊥ }
 {
     let mut entries = Vec::with_capacity(alloc, stored.len())?;
-    for entry in stored {
-        match read_entry(alloc, catalog, entry) {
+    for (index, entry) in stored.iter().enumerate() {
+        match read_entry(alloc, catalogs.at(first as u64 + index as u64), entry) {
             Ok(read) => entries.push(read)?,
             Err(fault) => return Err(fault),
         }
@@ -132,7 +135,7 @@ fn read_each(
 pub fn entries_at<S: RowStore>(
     alloc: Global,
     store: &mut S,
-    catalog: &Catalog,
+    catalogs: &Catalogs,
     first: u32,
     count: u32,
 ) -> Result<Vec<LogEntry>, StoreFault>
@@ -140,18 +143,19 @@ pub fn entries_at<S: RowStore>(
 
     // The store is only read.
     ensures reads { ReadsStore S.RowStore Device
-        (ShowsEntries catalog.now (S.contents store.old) first count) store.old store.new result }
+        (ShowsEntriesBy catalogs.now (S.contents store.old) first count) store.old store.new result }
 
     // They are those of the log that the store shows.
-    ensures found { S.honest store.new → (log : List Entry) → ShowsLog catalog.now (S.contents store.old) log
+    ensures found { S.honest store.new → (log : List Entry) → ShowsBy catalogs.now (S.contents store.old) log
         → first + count ≤ length log → IfOk result (λ entries. entries.items ≡ take count (drop first log)) }
 {
-    catalog_stays();
+    catalog_by_widens();
+    catalog_next();
     let stored = match stored_from(store, first, count) {
         Ok(stored) => stored,
         Err(fault) => return Err(fault),
     };
-    match read_each(alloc, catalog, stored.as_slice()) {
+    match read_each(alloc, catalogs, first, stored.as_slice()) {
         Ok(entries) => Ok(entries),
         Err(BodyFault::NoBody) => Err(store.misread()),
         Err(BodyFault::Memory) => Err(StoreFault::Memory),

@@ -18,8 +18,8 @@ follows p after wishes clash wish so seen =
     (after.wishes, subst (λ (ws : List Wish). IsWished ws clash wish after.wishes) so seen.wished, refl)
 
 pub seen_is_heard : SeenIsHeard
-seen_is_heard tables before after answer wishes result seen heard =
+seen_is_heard before after answer wishes result seen heard =
     let first : Seeing = record { wishes = wishes; seen = None } in
     let last : Seeing = record { wishes = heard.unused; seen = seen } in
-    let n = answers_so IsSeen IsWished Stands follows tables answer result before.position after.position before.view heard.left first last wishes refl heard.answers in
+    let n = answers_so IsSeen IsWished Stands follows before.tables after.tables answer result before.position after.position before.view heard.left first last wishes refl heard.answers in
     record { left = heard.left; unused = n.0; answers = n.1; shows = heard.shows }

@@ -50,7 +50,9 @@ use Rattle.cs_node_lines.specs.following.Several.{EditsStep, ReadEditsStep, all_
 use Rattle.cs_node_lines.specs.told.Dump.{replica_text, rows_text}
 use Rattle.cs_node_lines.specs.working.Laws.{OneLineStep}
 use Rattle.cs_node_lines.specs.working.Texts.{refused_text, wire_fault_text}
-use Rattle.cs_node_lines.proofs.WorkingLemmas.OneLine.{one_run, shown_after, stays_same, store_tells}
+use Rattle.cs_node_lines.proofs.WorkingLemmas.OneLine.{Stands, one_run, stands_after, stays_same, store_tells}
+use Rattle.cs_node_lines.proofs.WorkingLemmas.Tables.{answered_tables}
+use Rattle.cs_widening.specs.Laws.{WidenedAreTables}
 
 -- the laws below
 pub record Beneath : Type 0 where
@@ -97,40 +99,45 @@ edits_tell (Err several.Memory) text is not = not (inl (inl is))
 edits_tell (Err several.Device) text is not = not (inl (inr (inl is)))
 edits_tell (Err (several.Refused at fault)) text is not = tt
 
-module _ (laws : Beneath) (tables : List TableDef) (are : AreTables tables) (had has its_had its_has : ℕ) (before its : Member) (shown : IsShown tables before) (sees : IsShown tables its) (same : IsSameMember tables before its) where
+module _ (laws : Beneath) (tables : List TableDef) (had has its_had its_has : ℕ) (before its : Member) (are : AreTables before.tables) (shown : IsShown before) (sees : IsShown its) (same : IsSameMember before its) where
   -- ---- an answer
 
   hears_once : (wishes : List Wish) (some other : List ℕ) (one last : Member) (answer : Told_by) (result outcome : Result Told AnswerFault) (seen clash : Option Clash) → (SaysNothing some → ⊥) → (SaysNothing other → ⊥)
-      → HearsSeeing tables before answer wishes result seen one → some ≡ seen_text tables result seen one.position.version
-      → HearsSeeing tables its answer wishes outcome clash last → other ≡ seen_text tables outcome clash last.position.version
-      → (some ≡ other) × IsSameMember tables one last
+      → HearsSeeing before answer wishes result seen one → some ≡ seen_text tables result seen one.position.version
+      → HearsSeeing its answer wishes outcome clash last → other ≡ seen_text tables outcome clash last.position.version
+      → (some ≡ other) × IsSameMember one last
   hears_once wishes some other one last answer result outcome seen clash not never hears is again so =
+      let own = before.tables in
       let begins : Seeing = record { wishes = wishes; seen = None } in
-      let here = subst (λ (p : Position). ShowsAt tables sees.contents p its.view) same.position sees.shows in
+      let ends : Seeing = record { wishes = again.unused; seen = clash } in
+      let here = subst (λ (p : Position). ShowsAt own sees.contents p its.view) same.position
+      (subst (λ (ts : List TableDef). ShowsAt ts sees.contents its.position its.view) same.tables sees.shows) in
       let held : shown.contents ≡ sees.contents =
-      laws.contents tables before.position shown.contents sees.contents before.view its.view
-      (as_many tables before.position shown.contents before.view shown.shows) (as_many tables before.position sees.contents its.view here) same.view.rows same.view.pending in
-      let its_shown = subst (λ (c : Contents). ShowsAt tables c before.position its.view) (sym held) here in
-      let its_answers = subst (λ (p : Position). Answers IsSeen tables answer outcome p its.view begins last.position again.left (record { wishes = again.unused; seen = clash })) same.position again.answers in
-      let all = laws.answered tables answer shown.contents hears.left again.left before.position one.position last.position before.view its.view result outcome begins
-      (record { wishes = hears.unused; seen = seen }) (record { wishes = again.unused; seen = clash }) are sees_once_each
+      laws.contents own before.position shown.contents sees.contents before.view its.view
+      (as_many own before.position shown.contents before.view shown.shows) (as_many own before.position sees.contents its.view here) same.view.rows same.view.pending in
+      let its_shown = subst (λ (c : Contents). ShowsAt own c before.position its.view) (sym held) here in
+      let its_answers = subst (λ (p : Position). Answers IsSeen own answer outcome p its.view begins last.tables last.position again.left ends) same.position
+      (subst (λ (ts : List TableDef). Answers IsSeen ts answer outcome its.position its.view begins last.tables last.position again.left ends) same.tables again.answers) in
+      let all = laws.answered own one.tables last.tables answer shown.contents hears.left again.left before.position one.position last.position before.view its.view result outcome begins
+      (record { wishes = hears.unused; seen = seen }) ends are sees_once_each
       shown.shows its_shown (seen_tells tables result seen one.position.version some is not) (seen_tells tables outcome clash last.position.version other so never) hears.answers its_answers in
-      let last_shown = subst (λ (c : Contents). ShowsAt tables c one.position last.view) (sym all.2) (subst (λ (p : Position). ShowsAt tables again.left p last.view) (sym all.1) again.shows) in
-      let alike = laws.views tables hears.left one.view last.view hears.shows.rows last_shown.rows in
-      let clashes : seen ≡ clash = ap (λ (s : Seeing). s.seen) all.3 in (
+      let last_shown = subst (λ (c : Contents). ShowsAt one.tables c one.position last.view) (sym all.3) (subst (λ (p : Position). ShowsAt one.tables again.left p last.view) (sym all.2)
+      (subst (λ (ts : List TableDef). ShowsAt ts again.left last.position last.view) (sym all.1) again.shows)) in
+      let alike = laws.views one.tables hears.left one.view last.view hears.shows.rows last_shown.rows in
+      let clashes : seen ≡ clash = ap (λ (s : Seeing). s.seen) all.4 in (
         is
             ∙ (ap (λ (r : Result Told AnswerFault). seen_text tables r seen one.position.version) all.0
             ∙ (ap (λ (c : Option Clash). seen_text tables outcome c one.position.version) clashes
-            ∙ (ap (λ (p : Position). seen_text tables outcome clash p.version) all.1 ∙ sym so))),
-        record { position = sym all.1; view = record { rows = alike.0; pending = alike.1 } },
+            ∙ (ap (λ (p : Position). seen_text tables outcome clash p.version) all.2 ∙ sym so))),
+        record { tables = sym all.1; position = sym all.2; view = record { rows = alike.0; pending = alike.1 } },
       )
 
   sees_once : (bytes : List ℕ) (wishes : List Wish) (some other : List ℕ) (one last : Member) → (SaysNothing some → ⊥) → (SaysNothing other → ⊥) → SeesAnswer tables had has before bytes wishes some one → SeesAnswer tables its_had its_has its bytes wishes other last
-      → (some ≡ other) × IsSameMember tables one last
+      → (some ≡ other) × IsSameMember one last
   sees_once bytes wishes some other one last not never (inl (answer, result, seen, fits, spelled, hears, device, inl is)) (inl (told, outcome, clash, suits, spells, again, failed, inl so)) =
       let both : Ok answer ≡ Ok told = laws.answer bytes (Ok answer) (Ok told) (fits, spelled) (suits, spells) in
       let answers : told ≡ answer = (let e = sym both in cc) in
-      hears_once wishes some other one last answer result outcome seen clash not never hears is (subst (λ (a : Told_by). HearsSeeing tables its a wishes outcome clash last) answers again) so
+      hears_once wishes some other one last answer result outcome seen clash not never hears is (subst (λ (a : Told_by). HearsSeeing its a wishes outcome clash last) answers again) so
   sees_once bytes wishes some other one last not never (inl (answer, result, seen, fits, spelled, hears, device, inr (count, stopped, is))) taken = absurd (not (inr (count, one.position.version, is)))
   sees_once bytes wishes some other one last not never (inl (answer, result, seen, fits, spelled, hears, device, inl is)) (inl (told, outcome, clash, suits, spells, again, failed, inr (count, stopped, so))) =
       absurd (never (inr (count, last.position.version, so)))
@@ -144,19 +151,19 @@ module _ (laws : Beneath) (tables : List TableDef) (are : AreTables tables) (had
   sees_once bytes wishes some other one last not never (inr (still, inl (fault, wrong, is))) (inr (stays, inl (why, bad, so))) =
       let both : Err fault ≡ Err why = laws.answer bytes (Err fault) (Err why) wrong bad in
       let faults : fault ≡ why = cc in
-      (is ∙ (ap (λ (f : WireFault). refused_text (wire_fault_text f)) faults ∙ sym so), stays_same tables before its one last still stays same)
+      (is ∙ (ap (λ (f : WireFault). refused_text (wire_fault_text f)) faults ∙ sym so), stays_same before its one last still stays same)
   sees_once bytes wishes some other one last not never (inr (still, inl (fault, wrong, is))) (inr (stays, inr memory)) = absurd (never (inl (inl memory)))
   sees_once bytes wishes some other one last not never (inr (still, inr memory)) taken = absurd (not (inl (inl memory)))
 
   ask_once : (ask : Ask) (some other : List ℕ) (one last : Member) → (SaysNothing some → ⊥) → (SaysNothing other → ⊥) → AskStep tables had has before ask some one → AskStep tables its_had its_has its ask other last
-      → (some ≡ other) × IsSameMember tables one last
-  ask_once (OnEdit edit) some other one last not never goes went = laws.line tables (OnEdit edit) some other had has its_had its_has before its one last are shown sees same (λ says. not (inl says)) (λ says. never (inl says)) goes went
-  ask_once Push some other one last not never goes went = laws.line tables Push some other had has its_had its_has before its one last are shown sees same (λ says. not (inl says)) (λ says. never (inl says)) goes went
-  ask_once Resend some other one last not never goes went = laws.line tables Resend some other had has its_had its_has before its one last are shown sees same (λ says. not (inl says)) (λ says. never (inl says)) goes went
-  ask_once (Pull limit) some other one last not never goes went = laws.line tables (Pull limit) some other had has its_had its_has before its one last are shown sees same (λ says. not (inl says)) (λ says. never (inl says)) goes went
-  ask_once (Catch limit) some other one last not never goes went = laws.line tables (Catch limit) some other had has its_had its_has before its one last are shown sees same (λ says. not (inl says)) (λ says. never (inl says)) goes went
+      → (some ≡ other) × IsSameMember one last
+  ask_once (OnEdit edit) some other one last not never goes went = laws.line (OnEdit edit) some other had has its_had its_has before its one last are shown sees same (λ says. not (inl says)) (λ says. never (inl says)) goes went
+  ask_once Push some other one last not never goes went = laws.line Push some other had has its_had its_has before its one last are shown sees same (λ says. not (inl says)) (λ says. never (inl says)) goes went
+  ask_once Resend some other one last not never goes went = laws.line Resend some other had has its_had its_has before its one last are shown sees same (λ says. not (inl says)) (λ says. never (inl says)) goes went
+  ask_once (Pull limit) some other one last not never goes went = laws.line (Pull limit) some other had has its_had its_has before its one last are shown sees same (λ says. not (inl says)) (λ says. never (inl says)) goes went
+  ask_once (Catch limit) some other one last not never goes went = laws.line (Catch limit) some other had has its_had its_has before its one last are shown sees same (λ says. not (inl says)) (λ says. never (inl says)) goes went
   ask_once (Answer bytes wishes) some other one last not never goes went = sees_once bytes wishes some other one last not never goes went
-  ask_once Dump some other one last not never goes went = laws.line tables Dump some other had has its_had its_has before its one last are shown sees same (λ says. not (inl says)) (λ says. never (inl says)) goes went
+  ask_once Dump some other one last not never goes went = laws.line Dump some other had has its_had its_has before its one last are shown sees same (λ says. not (inl says)) (λ says. never (inl says)) goes went
 
   -- ---- what is shown
 
@@ -167,15 +174,15 @@ module _ (laws : Beneath) (tables : List TableDef) (are : AreTables tables) (had
       is ∙ (ap (rows_text name) all ∙ sym so)
   rows_once false name some other is so = is ∙ sym so
 
-  changes_once : (some other : List TableChanges) → IsPendingOf tables before.view.pending some → IsPendingOf tables its.view.pending other → some ≡ other
+  changes_once : (some other : List TableChanges) → IsPendingOf before.tables before.view.pending some → IsPendingOf before.tables its.view.pending other → some ≡ other
   changes_once some other are_some are_other =
-      laws.pending tables before.view.pending some other are are_some (record {
+      laws.pending before.tables before.view.pending some other are are_some (record {
         fits = are_other.fits;
         normal = are_other.normal;
         changes_are = λ table key has_it. are_other.changes_are table key has_it ∙ same.view.pending table key has_it;
       })
 
-  outgoing_once : (some other : Outgoing) → IsOutgoing tables before.view.pending some → IsOutgoing tables its.view.pending other → outgoing_text some ≡ outgoing_text other
+  outgoing_once : (some other : Outgoing) → IsOutgoing before.tables before.view.pending some → IsOutgoing before.tables its.view.pending other → outgoing_text some ≡ outgoing_text other
   outgoing_once Nothing Nothing one two = refl
   outgoing_once Nothing TooLarge one (changes, of, large) =
       let none = changes_once [] changes one of in absurd (not_large changes (sym none) large)
@@ -190,49 +197,52 @@ module _ (laws : Beneath) (tables : List TableDef) (are : AreTables tables) (had
   outgoing_once (Changes changes) (Changes others) (of, some, fits) (its_of, more, suits) =
       ap (λ (c : List TableChanges). changeset_text (groups_of c)) (changes_once changes others of its_of)
 
-  shown_once : (asked : Look) (some other : List ℕ) → Shown tables before asked some → Shown tables its asked other → some ≡ other
+  shown_once : (asked : Look) (some other : List ℕ) → Shown before asked some → Shown its asked other → some ≡ other
   shown_once look.Place some other is so = is ∙ (ap (λ (p : Position). line (replica_text p.id p)) (sym same.position) ∙ sym so)
-  shown_once (look.Rows name) some other one two = rows_once (has_table tables name) name some other one two
+  shown_once (look.Rows name) some other one two =
+      rows_once (has_table before.tables name) name some other one (subst (λ (ts : List TableDef). TellsRows (has_table ts name) its.view.tables name other) same.tables two)
   shown_once (look.Row name key) some other is so =
       let states : its.view.tables ≡ before.view.tables = λ i n k. same.view.rows n k i in
-      is ∙ (ap (λ (s : State). row_told (has_table tables name) s name (key_bytes key)) (sym states) ∙ sym so)
-  shown_once look.Pending some other (outgoing, of, is) (others, its_of, so) = is ∙ (outgoing_once outgoing others of its_of ∙ sym so)
+      is
+      ∙ (ap (λ (s : State). row_told (has_table before.tables name) s name (key_bytes key)) (sym states)
+      ∙ (ap (λ (ts : List TableDef). row_told (has_table ts name) its.view.tables name (key_bytes key)) (sym same.tables) ∙ sym so))
+  shown_once look.Pending some other (outgoing, of, is) (others, its_of, so) = is ∙ (outgoing_once outgoing others of (subst (λ (ts : List TableDef). IsOutgoing ts its.view.pending others) same.tables its_of) ∙ sym so)
 
-  look_once : (asked : Look) (some other : List ℕ) (one last : Member) → (SaysNothing some → ⊥) → (SaysNothing other → ⊥) → LookStep tables had has before asked some one → LookStep tables its_had its_has its asked other last
-      → (some ≡ other) × IsSameMember tables one last
-  look_once asked some other one last not never (still, inl shows) (stays, inl seen) = (shown_once asked some other shows seen, stays_same tables before its one last still stays same)
+  look_once : (asked : Look) (some other : List ℕ) (one last : Member) → (SaysNothing some → ⊥) → (SaysNothing other → ⊥) → LookStep had has before asked some one → LookStep its_had its_has its asked other last
+      → (some ≡ other) × IsSameMember one last
+  look_once asked some other one last not never (still, inl shows) (stays, inl seen) = (shown_once asked some other shows seen, stays_same before its one last still stays same)
   look_once asked some other one last not never (still, inl shows) (stays, inr (fault, device, so)) = absurd (store_tells fault other so (λ says. never (inl says)))
   look_once asked some other one last not never (still, inr (fault, device, is)) goes = absurd (store_tells fault some is (λ says. not (inl says)))
 
   -- ---- a request
 
-  edits_once : (edits : List Edit) (some other : List ℕ) (one last : Member) → (SaysNothing some → ⊥) → (SaysNothing other → ⊥) → EditsStep tables had has before edits some one → EditsStep tables its_had its_has its edits other last
-      → (some ≡ other) × IsSameMember tables one last
+  edits_once : (edits : List Edit) (some other : List ℕ) (one last : Member) → (SaysNothing some → ⊥) → (SaysNothing other → ⊥) → EditsStep had has before edits some one → EditsStep its_had its_has its edits other last
+      → (some ≡ other) × IsSameMember one last
   edits_once edits some other one last not never (result, goes, device, is) (outcome, went, failed, so) =
-      let all = laws.edited tables edits result outcome before its one last same (edits_tell result some is not) (edits_tell outcome other so never) goes went in
+      let all = laws.edited edits result outcome before its one last same (edits_tell result some is not) (edits_tell outcome other so never) goes went in
       (is ∙ (ap all_edited_text all.0 ∙ sym so), all.1)
 
   all_once : (edits : Option (List Edit)) (some other : List ℕ) (one last : Member) → (SaysNothing some → ⊥) → (SaysNothing other → ⊥)
-      → ReadEditsStep tables had has before edits some one → ReadEditsStep tables its_had its_has its edits other last
-      → (some ≡ other) × IsSameMember tables one last
+      → ReadEditsStep had has before edits some one → ReadEditsStep its_had its_has its edits other last
+      → (some ≡ other) × IsSameMember one last
   all_once (Some edits) some other one last not never goes went = edits_once edits some other one last not never goes went
-  all_once None some other one last not never (still, is) (stays, so) = (is ∙ sym so, stays_same tables before its one last still stays same)
+  all_once None some other one last not never (still, is) (stays, so) = (is ∙ sym so, stays_same before its one last still stays same)
 
   read_once : (ask : Option Ask) (asked : Option Look) (some other : List ℕ) (one last : Member) → (SaysNothing some → ⊥) → (SaysNothing other → ⊥)
       → ReadStep tables had has before ask asked some one → ReadStep tables its_had its_has its ask asked other last
-      → (some ≡ other) × IsSameMember tables one last
+      → (some ≡ other) × IsSameMember one last
   read_once (Some ask) asked some other one last not never goes went = ask_once ask some other one last not never goes went
   read_once None (Some asked) some other one last not never goes went = look_once asked some other one last not never goes went
-  read_once None None some other one last not never (still, is) (stays, so) = (is ∙ sym so, stays_same tables before its one last still stays same)
+  read_once None None some other one last not never (still, is) (stays, so) = (is ∙ sym so, stays_same before its one last still stays same)
 
   request_once : (count : Option ℕ) (first : List ℕ) (more : List (List ℕ)) (some other : List ℕ) (one last : Member) → (SaysNothing some → ⊥) → (SaysNothing other → ⊥)
       → RequestStep tables had has before count first more some one → RequestStep tables its_had its_has its count first more other last
-      → (some ≡ other) × IsSameMember tables one last
+      → (some ≡ other) × IsSameMember one last
   request_once None first more some other one last not never goes went = read_once (ask_in tables first) (look_in first) some other one last not never goes went
   request_once (Some count) first more some other one last not never goes went = all_once (all_edits_in tables count more) some other one last not never goes went
 
   follow_once : (asked : List (List ℕ)) (some other : List ℕ) (one last : Member) → (SaysNothing some → ⊥) → (SaysNothing other → ⊥) → FollowStep tables had has before asked some one → FollowStep tables its_had its_has its asked other last
-      → (some ≡ other) × IsSameMember tables one last
+      → (some ≡ other) × IsSameMember one last
   follow_once [] some other one last not never goes went = absurd goes
   follow_once (first ∷ more) some other one last not never (inl goes) (inl went) = request_once (several_in first) first more some other one last not never goes went
   follow_once (first ∷ more) some other one last not never (inl goes) (inr (stays, memory)) = absurd (never (inl (inl memory)))
@@ -240,45 +250,50 @@ module _ (laws : Beneath) (tables : List TableDef) (are : AreTables tables) (had
 
 pub one_follow_step : Beneath → OneFollowStep
 one_follow_step laws tables asked some other had has its_had its_has before its one last are shown sees same not never goes went =
-    follow_once laws tables are had has its_had its_has before its shown sees same asked some other one last not never goes went
+    follow_once laws tables had has its_had its_has before its are shown sees same asked some other one last not never goes went
 
 -- ---- requests one behind another
 
-module _ (tables : List TableDef) (had has : ℕ) (before after : Member) (shown : IsShown tables before) where
-  still_shown : after ≡ before → IsShown tables after
-  still_shown still = subst (IsShown tables) (sym still) shown
+module _ (law : WidenedAreTables) (tables : List TableDef) (had has : ℕ) (before after : Member) (stood : Stands before) where
+  still_stands : after ≡ before → Stands after
+  still_stands still = subst Stands (sym still) stood
 
-  seen_shown : (bytes : List ℕ) (wishes : List Wish) (text : List ℕ) → SeesAnswer tables had has before bytes wishes text after → IsShown tables after
-  seen_shown bytes wishes text (inl (answer, result, seen, fits, spelled, hears, device, is)) = record { contents = hears.left; shows = hears.shows }
-  seen_shown bytes wishes text (inr (still, why)) = still_shown still
+  seen_stands : (bytes : List ℕ) (wishes : List Wish) (text : List ℕ) → SeesAnswer tables had has before bytes wishes text after → Stands after
+  seen_stands bytes wishes text (inl (answer, result, seen, fits, spelled, hears, device, is)) = (
+    answered_tables law IsSeen answer result before.tables after.tables before.position after.position before.view hears.left
+        (record { wishes = wishes; seen = None }) (record { wishes = hears.unused; seen = seen }) stood.0 hears.answers,
+    record { contents = hears.left; shows = hears.shows },
+  )
+  seen_stands bytes wishes text (inr (still, why)) = still_stands still
 
-  ask_shown : (ask : Ask) (text : List ℕ) → AskStep tables had has before ask text after → IsShown tables after
-  ask_shown (OnEdit edit) text goes = shown_after tables had has before after shown (OnEdit edit) text goes
-  ask_shown Push text goes = shown_after tables had has before after shown Push text goes
-  ask_shown Resend text goes = shown_after tables had has before after shown Resend text goes
-  ask_shown (Pull limit) text goes = shown_after tables had has before after shown (Pull limit) text goes
-  ask_shown (Catch limit) text goes = shown_after tables had has before after shown (Catch limit) text goes
-  ask_shown (Answer bytes wishes) text goes = seen_shown bytes wishes text goes
-  ask_shown Dump text goes = shown_after tables had has before after shown Dump text goes
+  ask_stands : (ask : Ask) (text : List ℕ) → AskStep tables had has before ask text after → Stands after
+  ask_stands (OnEdit edit) text goes = stands_after law had has before after stood (OnEdit edit) text goes
+  ask_stands Push text goes = stands_after law had has before after stood Push text goes
+  ask_stands Resend text goes = stands_after law had has before after stood Resend text goes
+  ask_stands (Pull limit) text goes = stands_after law had has before after stood (Pull limit) text goes
+  ask_stands (Catch limit) text goes = stands_after law had has before after stood (Catch limit) text goes
+  ask_stands (Answer bytes wishes) text goes = seen_stands bytes wishes text goes
+  ask_stands Dump text goes = stands_after law had has before after stood Dump text goes
 
-  read_shown : (ask : Option Ask) (asked : Option Look) (text : List ℕ) → ReadStep tables had has before ask asked text after → IsShown tables after
-  read_shown (Some ask) asked text goes = ask_shown ask text goes
-  read_shown None (Some asked) text (still, shows) = still_shown still
-  read_shown None None text (still, is) = still_shown still
+  read_stands : (ask : Option Ask) (asked : Option Look) (text : List ℕ) → ReadStep tables had has before ask asked text after → Stands after
+  read_stands (Some ask) asked text goes = ask_stands ask text goes
+  read_stands None (Some asked) text (still, shows) = still_stands still
+  read_stands None None text (still, is) = still_stands still
 
-  all_shown : (edits : Option (List Edit)) (text : List ℕ) → ReadEditsStep tables had has before edits text after → IsShown tables after
-  all_shown (Some edits) text (Ok done, (count, next, left, is, made, shows), device, says) = subst (IsShown tables) (sym is) (record { contents = left; shows = shows })
-  all_shown (Some edits) text (Err fault, (still, why), device, says) = still_shown still
-  all_shown None text (still, is) = still_shown still
+  all_stands : (edits : Option (List Edit)) (text : List ℕ) → ReadEditsStep had has before edits text after → Stands after
+  all_stands (Some edits) text (Ok done, (count, next, left, is, made, shows), device, says) = subst Stands (sym is) (stood.0, record { contents = left; shows = shows })
+  all_stands (Some edits) text (Err fault, (still, why), device, says) = still_stands still
+  all_stands None text (still, is) = still_stands still
 
-  request_shown : (count : Option ℕ) (first : List ℕ) (more : List (List ℕ)) (text : List ℕ) → RequestStep tables had has before count first more text after → IsShown tables after
-  request_shown None first more text goes = read_shown (ask_in tables first) (look_in first) text goes
-  request_shown (Some count) first more text goes = all_shown (all_edits_in tables count more) text goes
+  request_stands : (count : Option ℕ) (first : List ℕ) (more : List (List ℕ)) (text : List ℕ) → RequestStep tables had has before count first more text after → Stands after
+  request_stands None first more text goes = read_stands (ask_in tables first) (look_in first) text goes
+  request_stands (Some count) first more text goes = all_stands (all_edits_in tables count more) text goes
 
-  follow_shown : (asked : List (List ℕ)) (text : List ℕ) → FollowStep tables had has before asked text after → IsShown tables after
-  follow_shown [] text goes = absurd goes
-  follow_shown (first ∷ more) text (inl goes) = request_shown (several_in first) first more text goes
-  follow_shown (first ∷ more) text (inr (still, memory)) = still_shown still
+  follow_stands : (asked : List (List ℕ)) (text : List ℕ) → FollowStep tables had has before asked text after → Stands after
+  follow_stands [] text goes = absurd goes
+  follow_stands (first ∷ more) text (inl goes) = request_stands (several_in first) first more text goes
+  follow_stands (first ∷ more) text (inr (still, memory)) = still_stands still
 
-pub one_follow_run : OneFollowStep → OneFollowRun
-one_follow_run law = one_run FollowStep SaysNothing law (λ tables had has before after asked text shown goes. follow_shown tables had has before after shown asked text goes)
+pub one_follow_run : WidenedAreTables → OneFollowStep → OneFollowRun
+one_follow_run widened law tables =
+    one_run (FollowStep tables) SaysNothing (law tables) (λ had has before after asked text stood goes. follow_stands widened tables had has before after stood asked text goes)

@@ -16,7 +16,6 @@ use Rattle.cs_replica.specs.Holding.{Holding, Shows}
 use Rattle.cs_replica.specs.Step.{IsAnsweredTo, Turns}
 use Rattle.cs_replica.specs.declared.told.Told.{Told}
 use Rattle.cs_replica.specs.declared.told.Told.TheVariants.{Confirmed, Ignored, Refused, Stale, Stopped, Taken}
-use Rattle.cs_pending.specs.position.Shows.{ShowsAt}
 use Rattle.cs_store.specs.declared.store.RowStore.{Ghosts}
 use Rattle.cs_value.specs.declared.catalog.TableDef.{TableDef}
 use Rattle.cs_text.specs.Text.{line}
@@ -92,36 +91,34 @@ note_is tables (Ok (Stopped count)) (Text noted) None version notes = absurd (no
 note_is tables (Ok (Stopped count)) Lacking seen version notes = inr (count, refl, refl)
 note_is tables (Err fault) note seen version notes = inl refl
 
-module _ {S : Type 0} (g : Ghosts S) where
+module _ {S : Type 0} (g : Ghosts S) (tables : List TableDef) where
   pub seen_told : (bytes : List ℕ) (wishes : List Wish) (answer : Answer) (result : Result Told AnswerFault) (note : Note) (version : ℕ) (old new : Holding S)
       → FitsAnswer answer → bytes ≡ answer_spelling answer → version ≡ new.position.version
-      → Turns g (λ before after. HearsNoting old.catalog before answer wishes result note after) old new → Counts g (SaysDevice result) old new
-      → Stepped g AskStep (asking.Answer bytes wishes) (note_text result note version) old new
+      → Turns g (λ before after. HearsNoting tables before answer wishes result note after) old new → Counts g (SaysDevice result) old new
+      → Stepped g (AskStep tables) (asking.Answer bytes wishes) (note_text result note version) old new
   seen_told bytes wishes answer result note version old new fits is at turns counts = record {
     later = counts.later;
     turns = record {
       was_honest = turns.was_honest;
-      catalog = turns.catalog;
       turned = λ h are in_range view shows.
           let t = turns.turned h are in_range view shows in
-          let text = subst (λ (v : ℕ). IsSeenText old.catalog result t.3.0 v (note_text result note version)) at (note_is old.catalog result note t.3.0 version t.3.2) in
+          let text = subst (λ (v : ℕ). IsSeenText tables result t.3.0 v (note_text result note version)) at (note_is tables result note t.3.0 version t.3.2) in
           (t.0, t.1, t.2, inl (answer, result, t.3.0, fits, is, t.3.1, counts.cause, text));
     };
   }
 
   pub hears_noting : (answer : Answer) (wishes : List Wish) (result : Result Told AnswerFault) (p after : Noted) (note : Note) (old new : Holding S)
-      → p ≡ record { tables = old.catalog; wishes = wishes; note = Nothing } → note ≡ after.note
-      → (g.honest new.store → (before : View) → Shows g.contents old before → Answers IsNoted old.catalog answer result old.position before p new.position (g.contents new.store) after)
-      → Turns g (IsAnsweredTo IsNoted old.catalog answer p result) old new
-      → Turns g (λ before after. HearsNoting old.catalog before answer wishes result note after) old new
+      → p ≡ record { tables = tables; wishes = wishes; note = Nothing } → note ≡ after.note
+      → (g.honest new.store → (before : View) → Shows g.contents old before → Answers IsNoted old.catalog answer result old.position before p new.catalog new.position (g.contents new.store) after)
+      → Turns g (IsAnsweredTo IsNoted answer p result) old new
+      → Turns g (λ before after. HearsNoting tables before answer wishes result note after) old new
   hears_noting answer wishes result p after note old new is noted told turns = record {
     was_honest = turns.was_honest;
-    catalog = turns.catalog;
     turned = λ h are fits view shows.
         let t = turns.turned h are fits view shows in
         let first : Seeing = record { wishes = wishes; seen = None } in
-        let begins : Stands old.catalog p first = rw is (record { wishes = refl; tables_are = refl; note = tt }) in
-        let n = answers_so IsNoted IsSeen (Stands old.catalog) (follows old.catalog) old.catalog answer result old.position new.position view (g.contents new.store) p after first begins (told h view shows) in (
+        let begins : Stands tables p first = rw is (record { wishes = refl; tables_are = refl; note = tt }) in
+        let n = answers_so IsNoted IsSeen (Stands tables) (follows tables) old.catalog new.catalog answer result old.position new.position view (g.contents new.store) p after first begins (told h view shows) in (
           t.0,
           t.1,
           t.2,
@@ -131,9 +128,9 @@ module _ {S : Type 0} (g : Ghosts S) where
               left = g.contents new.store;
               unused = n.0.wishes;
               answers = n.1;
-              shows = subst (λ (ts : List TableDef). ShowsAt ts (g.contents new.store) new.position t.0) turns.catalog t.1;
+              shows = t.1;
             },
-            λ count stopped. subst (λ (m : Note). IsNoteOf old.catalog m n.0.seen) (sym noted) (n.2 count stopped).note,
+            λ count stopped. subst (λ (m : Note). IsNoteOf tables m n.0.seen) (sym noted) (n.2 count stopped).note,
           ),
         );
   }

@@ -46,51 +46,52 @@ module _ {S : Type 0} (g : Ghosts S) where
   -- ---- what is made
 
   pub edits_made : (asked : List Edit) (result : Result (Unit {0}) EditsFault) (text : List ℕ) (old new : Holding S) → text ≡ all_edited_text result
-      → Turns g (AreEditedTo old.catalog asked result) old new → Counts g (result ≡ Err edits.Device) old new → Stepped g EditsStep asked text old new
+      → Turns g (AreEditedTo asked result) old new → Counts g (result ≡ Err edits.Device) old new → Stepped g EditsStep asked text old new
   edits_made asked result text old new is turns counts =
-      counted_as g old new (AreEditedTo old.catalog asked result) (λ had has before after. EditsStep old.catalog had has before asked text after) counts.later
+      counted_as g old new (AreEditedTo asked result) (λ had has before after. EditsStep had has before asked text after) counts.later
       (λ before after edited. (result, edited, counts.cause, is)) turns
 
   -- where memory is refused for the text, nothing was done, and so it is told
   pub edits_refused : (asked : List Edit) (at : ℕ) (fault : EditFault) (text : List ℕ) (old new : Holding S) → (text ≡ all_edited_text (refusal at fault)) ⊎ SaysMemory text
-      → Turns g (AreEditedTo old.catalog asked (refusal at fault)) old new → Counts g (refusal at fault ≡ Err edits.Device) old new
+      → Turns g (AreEditedTo asked (refusal at fault)) old new → Counts g (refusal at fault ≡ Err edits.Device) old new
       → Stepped g EditsStep asked text old new
   edits_refused asked at fault text old new (inl is) turns counts = edits_made asked (refusal at fault) text old new is turns counts
   edits_refused asked at fault text old new (inr memory) turns counts =
-      counted_as g old new (AreEditedTo old.catalog asked (refusal at fault)) (λ had has before after. EditsStep old.catalog had has before asked text after) counts.later
+      counted_as g old new (AreEditedTo asked (refusal at fault)) (λ had has before after. EditsStep had has before asked text after) counts.later
       (λ before after edited. (Err edits.Memory, (edited.0, tt), (λ device. absurd (cc)), memory)) turns
 
+module _ {S : Type 0} (g : Ghosts S) (tables : List TableDef) where
   -- ---- what is made of what was gathered
 
-  pub gathered_made : (lines : List (List ℕ)) (asked : List Edit) (text : List ℕ) (old new : Holding S) → edits_in old.catalog lines ≡ Some asked
-      → Stepped g EditsStep asked text old new → Stepped g AllStep lines text old new
+  pub gathered_made : (lines : List (List ℕ)) (asked : List Edit) (text : List ℕ) (old new : Holding S) → edits_in tables lines ≡ Some asked
+      → Stepped g EditsStep asked text old new → Stepped g (AllStep tables) lines text old new
   gathered_made lines asked text old new is made =
-      stepped_map g EditsStep AllStep asked lines text old new
-      (λ had has before after goes. inl (subst (λ (e : Option (List Edit)). ReadEditsStep old.catalog had has before e text after) (sym is) goes)) made
+      stepped_map g EditsStep (AllStep tables) asked lines text old new
+      (λ had has before after goes. inl (subst (λ (e : Option (List Edit)). ReadEditsStep had has before e text after) (sym is) goes)) made
 
   -- ---- the request
 
   request_made : (first : List ℕ) (count : ℕ) (lines : List (List ℕ)) (text : List ℕ) (old new : Holding S) → several_in first ≡ Some count → length lines ≡ count
-      → Stepped g AllStep lines text old new → Stepped g FollowStep (first ∷ lines) text old new
+      → Stepped g (AllStep tables) lines text old new → Stepped g (FollowStep tables) (first ∷ lines) text old new
   request_made first count lines text old new is long made =
-      stepped_map g AllStep FollowStep lines (first ∷ lines) text old new
+      stepped_map g (AllStep tables) (FollowStep tables) lines (first ∷ lines) text old new
       (λ had has before after. λ goes. elim goes [
-        | inl read ↦ inl (subst (λ (n : Option ℕ). RequestStep old.catalog had has before n first lines text after) (sym is)
-            (subst (λ (e : Option (List Edit)). ReadEditsStep old.catalog had has before e text after) (sym (all_there old.catalog count lines long)) read))
+        | inl read ↦ inl (subst (λ (n : Option ℕ). RequestStep tables had has before n first lines text after) (sym is)
+            (subst (λ (e : Option (List Edit)). ReadEditsStep had has before e text after) (sym (all_there tables count lines long)) read))
         | inr memory ↦ inr memory
       ]) made
 
   request_cut : (first : List ℕ) (count : ℕ) (lines : List (List ℕ)) (held : Holding S) → several_in first ≡ Some count → length lines < count
-      → Stepped g FollowStep (first ∷ lines) unread_text held held
+      → Stepped g (FollowStep tables) (first ∷ lines) unread_text held held
   request_cut first count lines held is less =
-      stepped_still g FollowStep (first ∷ lines) unread_text held
-      (λ had has m at. inl (subst (λ (n : Option ℕ). RequestStep held.catalog had has m n first lines unread_text m) (sym is)
-      (subst (λ (e : Option (List Edit)). ReadEditsStep held.catalog had has m e unread_text m) (sym (none_there held.catalog count lines less)) (refl, refl))))
+      stepped_still g (FollowStep tables) (first ∷ lines) unread_text held
+      (λ had has m at. inl (subst (λ (n : Option ℕ). RequestStep tables had has m n first lines unread_text m) (sym is)
+      (subst (λ (e : Option (List Edit)). ReadEditsStep had has m e unread_text m) (sym (none_there tables count lines less)) (refl, refl))))
 
   -- all lines were read
   pub several_replied : (count : ℕ) (first : List ℕ) (reply : Reply) (read_failed : Type 0) (input mid left : Option (List ℕ)) (lines : List (List ℕ)) (old new : Holding S) → several_in first ≡ Some count
-      → TakesLine [] input mid first → AreTaken mid left lines → length lines ≡ count → Stepped g AllStep lines (reply_text reply) old new
-      → Replies g (Ok (Replied reply)) read_failed input left old new
+      → TakesLine [] input mid first → AreTaken mid left lines → length lines ≡ count → Stepped g (AllStep tables) lines (reply_text reply) old new
+      → Replies g tables (Ok (Replied reply)) read_failed input left old new
   several_replied count first reply read_failed input mid left lines old new is took taken long made = (
     first ∷ lines,
     long ∙ sym (follows_so first count is),
@@ -98,9 +99,9 @@ module _ {S : Type 0} (g : Ghosts S) where
   )
 
   -- or they ended before
-  pub several_cut : (tables : List TableDef) (count : ℕ) (first : List ℕ) (read_failed : Type 0) (input mid left : Option (List ℕ)) (held : Holding S) → several_in first ≡ Some count
-      → TakesLine [] input mid first → Gathers tables count (Ok None) read_failed mid left → Replies g (Ok Cut) read_failed input left held held
-  several_cut tables count first read_failed input mid left held is took (lines, all, less) = (
+  pub several_cut : (count : ℕ) (first : List ℕ) (read_failed : Type 0) (input mid left : Option (List ℕ)) (held : Holding S) → several_in first ≡ Some count
+      → TakesLine [] input mid first → Gathers tables count (Ok None) read_failed mid left → Replies g tables (Ok Cut) read_failed input left held held
+  several_cut count first read_failed input mid left held is took (lines, all, less) = (
     first ∷ lines,
     (
       taken_to_end input mid (first ∷ []) lines (taken_one input mid first took) all,
@@ -110,9 +111,9 @@ module _ {S : Type 0} (g : Ghosts S) where
   )
 
   -- or the reader failed
-  pub several_failed : (tables : List TableDef) (count : ℕ) (first : List ℕ) (fault : NodeFault) (read_failed : Type 0) (input mid left : Option (List ℕ)) (held : Holding S) → several_in first ≡ Some count
-      → TakesLine [] input mid first → Gathers tables count (Err fault) read_failed mid left → Replies g (Err fault) read_failed input left held held
-  several_failed tables count first fault read_failed input mid left held is took (read, (lines, behind, less, failed)) =
+  pub several_failed : (count : ℕ) (first : List ℕ) (fault : NodeFault) (read_failed : Type 0) (input mid left : Option (List ℕ)) (held : Holding S) → several_in first ≡ Some count
+      → TakesLine [] input mid first → Gathers tables count (Err fault) read_failed mid left → Replies g tables (Err fault) read_failed input left held held
+  several_failed count first fault read_failed input mid left held is took (read, (lines, behind, less, failed)) =
       rw read (
         failed,
         (

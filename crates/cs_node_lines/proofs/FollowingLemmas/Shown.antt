@@ -20,8 +20,7 @@ use Rattle.cs_node_lines.specs.told.Dump.{rows_text}
 use Rattle.cs_node_lines.specs.working.LineStep.{ReadsNone}
 use Rattle.cs_node_lines.specs.working.Steps.{Stepped}
 use Rattle.cs_node_lines.specs.working.Texts.{refused_text, store_fault_text}
-use Rattle.cs_node_lines.proofs.FollowingLemmas.Turned.{counted_map}
-use Rattle.cs_node_lines.proofs.WorkingLemmas.Made.{stepped_still}
+use Rattle.cs_node_lines.proofs.WorkingLemmas.Made.{stepped_there}
 
 -- the table with this number and name
 def_at : (name : List ℕ) (tables : List TableDef) (table : ℕ) → table < length tables → HoldsAt (λ (def : TableDef). def.name ≡ name) tables table
@@ -40,35 +39,44 @@ module _ {S : Type 0} (g : Ghosts S) where
   read_of bytes said shown (Err fault) text had has leads is reads = inr (fault, reads, is)
 
   look_of : {T : Type 0} (bytes : T → List ℕ) (asked : Look) (said : Member → List ℕ → Type 0) (result : Result T StoreFault) (text : List ℕ) (old new : Holding S)
-      → ((before : Member) → said before text → Shown old.catalog before asked text)
+      → ((before : Member) → before.tables ≡ old.catalog → said before text → Shown before asked text)
       → MatchResult result (λ read. text ≡ bytes read) (λ fault. text ≡ refused_text (store_fault_text fault))
       → Shows g (λ before read. said before (bytes read)) result old new → Stepped g LookStep asked text old new
-  look_of bytes asked said result text old new leads is shows =
-      counted_map g (λ had has before after. (after ≡ before) × ReadsOf had has (λ read. said before (bytes read)) result) (λ had has before after. LookStep old.catalog had has before asked text after) old new
-      (λ had has before after reads. (reads.0, read_of bytes (said before) (Shown old.catalog before asked text) result text had has (leads before) is reads.1)) shows
+  look_of bytes asked said result text old new leads is shows = record {
+    later = shows.later;
+    turns = record {
+      was_honest = shows.turns.was_honest;
+      turned = λ h are fits view seen.
+          let t = shows.turns.turned h are fits view seen in
+          let before = member_of old view in
+          (t.0, t.1, t.2, (t.3.0, read_of bytes (said before) (Shown before asked text) result text (g.failed old.store) (g.failed new.store) (leads before refl) is t.3.1));
+    };
+  }
 
   pub rows_told : {T : Type 0} (bytes : T → List ℕ) (name : List ℕ) (result : Result T StoreFault) (text : List ℕ) (old new : Holding S) → has_table old.catalog name ≡ true
       → MatchResult result (λ read. text ≡ bytes read) (λ fault. text ≡ refused_text (store_fault_text fault))
       → Shows g (λ before read. TellsRows true before.view.tables name (bytes read)) result old new → Stepped g LookStep (look.Rows name) text old new
   rows_told bytes name result text old new there is shows =
       look_of bytes (look.Rows name) (λ before t. TellsRows true before.view.tables name t) result text old new
-      (λ before tells. subst (λ (b : Bool). TellsRows b before.view.tables name text) (sym there) tells) is shows
+      (λ before same tells. subst (λ (b : Bool). TellsRows b before.view.tables name text) (sym (ap (λ (ts : List TableDef). has_table ts name) same ∙ there)) tells) is shows
 
   pub row_told_of : {T : Type 0} (bytes : T → List ℕ) (name : List ℕ) (key : List Value) (result : Result T StoreFault) (text : List ℕ) (old new : Holding S) → has_table old.catalog name ≡ true
       → MatchResult result (λ read. text ≡ bytes read) (λ fault. text ≡ refused_text (store_fault_text fault))
       → Shows g (λ before read. bytes read ≡ row_told true before.view.tables name (key_bytes key)) result old new → Stepped g LookStep (look.Row name key) text old new
   row_told_of bytes name key result text old new there is shows =
       look_of bytes (look.Row name key) (λ before t. t ≡ row_told true before.view.tables name (key_bytes key)) result text old new
-      (λ before tells. tells ∙ ap (λ (b : Bool). row_told b before.view.tables name (key_bytes key)) (sym there)) is shows
+      (λ before same tells. tells ∙ ap (λ (b : Bool). row_told b before.view.tables name (key_bytes key)) (sym (ap (λ (ts : List TableDef). has_table ts name) same ∙ there))) is shows
 
   -- no table has the name
   pub no_rows : (name text : List ℕ) (held : Holding S) → has_table held.catalog name ≡ false → text ≡ refused_text (codes "NoTable") → Stepped g LookStep (look.Rows name) text held held
   no_rows name text held none is =
-      stepped_still g LookStep (look.Rows name) text held (λ had has m at. (refl, inl (subst (λ (b : Bool). TellsRows b m.view.tables name text) (sym none) is)))
+      stepped_there g LookStep (look.Rows name) text held
+      (λ had has m same at. (refl, inl (subst (λ (b : Bool). TellsRows b m.view.tables name text) (sym (ap (λ (ts : List TableDef). has_table ts name) same ∙ none)) is)))
 
   pub no_row : (name text : List ℕ) (key : List Value) (held : Holding S) → has_table held.catalog name ≡ false → text ≡ refused_text (codes "NoTable") → Stepped g LookStep (look.Row name key) text held held
   no_row name text key held none is =
-      stepped_still g LookStep (look.Row name key) text held (λ had has m at. (refl, inl (is ∙ ap (λ (b : Bool). row_told b m.view.tables name (key_bytes key)) (sym none))))
+      stepped_there g LookStep (look.Row name key) text held
+      (λ had has m same at. (refl, inl (is ∙ ap (λ (b : Bool). row_told b m.view.tables name (key_bytes key)) (sym (ap (λ (ts : List TableDef). has_table ts name) same ∙ none)))))
 
   -- ---- reading
 
@@ -84,7 +92,6 @@ module _ {S : Type 0} (g : Ghosts S) where
     later = later;
     turns = record {
       was_honest = kept.was_honest;
-      catalog = kept.catalog;
       turned = λ h are fits view shows.
           let k = kept.turned h are fits view shows in
           let def = def_at name old.catalog table less named in

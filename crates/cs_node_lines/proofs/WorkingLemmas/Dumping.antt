@@ -1,6 +1,6 @@
 -- Rows of tables, one table after another.
 use Rattle.std.proofs.Common.{◌≡◌, ◌∙◌, ◌<◌, ◌+◌, ℕ, zero, suc, List, [], ◌∷◌, ◌++◌, get_or, refl, sym, ap, append_assoc, append-nil, subst, drop, length, arith}
-use Rattle.std.specs.Prelude.{Some, None, slice_get}
+use Rattle.std.specs.Prelude.{Some, slice_get}
 use Rattle.cs_replica.specs.Step.{AreRowsIn, Member, Turns, member_of}
 use Rattle.cs_normal.specs.State.{State}
 use Rattle.cs_pending.specs.View.{View}
@@ -31,16 +31,15 @@ drop_all (x ∷ xs) = drop_all xs
 
 module _ {S : Type 0} (g : Ghosts S) where
   -- a table's lines were put behind a text
-  pub put_one : (tables : List TableDef) (old new : Holding S) (table : ℕ) (def : TableDef) (rows : List (List ℕ × List Value)) (start now : List ℕ)
+  pub put_one : (old new : Holding S) (table : ℕ) (def : TableDef) (rows : List (List ℕ × List Value)) (start now : List ℕ)
       → slice_get old.catalog table ≡ Some def → Turns g (λ before after. after ≡ before) old new
       → (g.honest new.store → (view : View) → Shows g.contents old view → AreRowsIn old.catalog view.tables table rows) → now ≡ start ++ rows_text def.name rows
-      → Turns g (λ (before : Member) (after : Member). (after ≡ before) × PutsTable before.view.tables def.name start now) old new
-  put_one tables old new table def rows start now there kept listed is = record {
+      → Turns g (λ (before : Member) (after : Member). (after ≡ before) × PutsTable old.catalog table before.view.tables start now) old new
+  put_one old new table def rows start now there kept listed is = record {
     was_honest = kept.was_honest;
-    catalog = kept.catalog;
     turned = λ h are fits view shows.
         let k = kept.turned h are fits view shows in
-        (k.0, k.1, k.2, (k.3, (rows, (listed h view shows).there def there, is)));
+        (k.0, k.1, k.2, (k.3, (def, rows, there, (listed h view shows).there def there, is)));
   }
 
   -- where the lines of the tables from one on stand behind what was put, those of all stand behind the start
@@ -48,41 +47,39 @@ module _ {S : Type 0} (g : Ghosts S) where
   PutsRest tables table state start now =
       (rest : List ℕ) → AreRowLines (drop table tables) state rest → (lines : List ℕ) × AreRowLines tables state lines × (start ++ lines ≡ now ++ rest)
 
-  abbrev pub IsDumping : List TableDef → ℕ → List ℕ → List ℕ → Holding S → Holding S → Type 0
-  IsDumping tables table start now old held =
-      Turns g (λ (before : Member) (after : Member). (after ≡ before) × PutsRest tables table before.view.tables start now) old held
+  abbrev pub IsDumping : ℕ → List ℕ → List ℕ → Holding S → Holding S → Type 0
+  IsDumping table start now old held =
+      Turns g (λ (before : Member) (after : Member). (after ≡ before) × PutsRest old.catalog table before.view.tables start now) old held
 
-  pub dumping_on : (tables : List TableDef) (table : ℕ) (def : TableDef) (start now next : List ℕ) (old mid new : Holding S)
-      → slice_get tables table ≡ Some def → IsDumping tables table start now old mid
-      → Turns g (λ (before : Member) (after : Member). (after ≡ before) × PutsTable before.view.tables def.name now next) mid new
-      → IsDumping tables (table + 1) start next old new
-  dumping_on tables table def start now next old mid new there some one = record {
+  pub dumping_on : (table : ℕ) (start now next : List ℕ) (old mid new : Holding S) → mid.catalog ≡ old.catalog → IsDumping table start now old mid
+      → Turns g (λ (before : Member) (after : Member). (after ≡ before) × PutsTable mid.catalog table before.view.tables now next) mid new
+      → IsDumping (table + 1) start next old new
+  dumping_on table start now next old mid new same some one = record {
     was_honest = λ h. some.was_honest (one.was_honest h);
-    catalog = one.catalog ∙ some.catalog;
     turned = λ h are fits view shows.
         let s = some.turned (one.was_honest h) are fits view shows in
-        let o = one.turned h (subst AreTables (sym some.catalog) are) s.2 s.0 s.1 in
-        let puts : PutsTable view.tables def.name now next = subst (λ (m : Member). PutsTable m.view.tables def.name now next) s.3.0 o.3.1 in (
+        let o = one.turned h (subst AreTables (sym same) are) s.2 s.0 s.1 in
+        let put : PutsTable mid.catalog table view.tables now next = subst (λ (m : Member). PutsTable mid.catalog table m.view.tables now next) s.3.0 o.3.1 in
+        let puts : PutsTable old.catalog table view.tables now next = subst (λ (ts : List TableDef). PutsTable ts table view.tables now next) same put in (
           o.0,
           o.1,
           o.2,
           (
             o.3.0 ∙ s.3.0,
             λ rest lines.
-                let text = rows_text def.name puts.0 ++ rest in
-                let whole : AreRowLines (drop table tables) view.tables text = subst (λ (ts : List TableDef). AreRowLines ts view.tables text) (sym (drop_next tables table def there)) (puts.0, rest, puts.1, lines, refl) in
+                let text = rows_text puts.0.name puts.1 ++ rest in
+                let whole : AreRowLines (drop table old.catalog) view.tables text = subst (λ (ts : List TableDef). AreRowLines ts view.tables text) (sym (drop_next old.catalog table puts.0 puts.2)) (puts.1, rest, puts.3, lines, refl) in
                 let all = s.3.1 text whole in
-                (all.0, all.1, all.2 ∙ sym (append_assoc now (rows_text def.name puts.0) rest) ∙ ap (λ l. l ++ rest) (sym puts.2)),
+                (all.0, all.1, all.2 ∙ sym (append_assoc now (rows_text puts.0.name puts.1) rest) ∙ ap (λ l. l ++ rest) (sym puts.4)),
           ),
         );
   }
 
   -- none are left
-  pub dumping_last : (tables : List TableDef) (table : ℕ) (start now : List ℕ) (old new : Holding S) → drop table tables ≡ [] → IsDumping tables table start now old new
-      → Turns g (λ (before : Member) (after : Member). (after ≡ before) × PutsRows tables before.view.tables start now) old new
-  dumping_last tables table start now old new none some = record {
+  pub dumping_last : (table : ℕ) (start now : List ℕ) (old new : Holding S) → drop table old.catalog ≡ [] → IsDumping table start now old new
+      → Turns g (λ (before : Member) (after : Member). (after ≡ before) × PutsRows before.tables before.view.tables start now) old new
+  dumping_last table start now old new none some = record {
     was_honest = some.was_honest;
-    catalog = some.catalog;
     turned = λ h are fits view shows.
         let s = some.turned h are fits view shows in
         let all = s.3.1 [] (subst (λ (ts : List TableDef). AreRowLines ts view.tables []) (sym none) refl) in
@@ -90,14 +87,13 @@ module _ {S : Type 0} (g : Ghosts S) where
   }
 
   -- nothing more is known where it ended early
-  pub dumping_failed : (tables : List TableDef) (table : ℕ) (start now : List ℕ) (P Q : Member → Type 0) (old mid new : Holding S) → IsDumping tables table start now old mid
+  pub dumping_failed : (table : ℕ) (start now : List ℕ) (P Q : Member → Type 0) (old mid new : Holding S) → mid.catalog ≡ old.catalog → IsDumping table start now old mid
       → Turns g (λ (before : Member) (after : Member). (after ≡ before) × P before) mid new → ((m : Member) → Q m)
       → Turns g (λ (before : Member) (after : Member). (after ≡ before) × Q before) old new
-  dumping_failed tables table start now P Q old mid new some one any = record {
+  dumping_failed table start now P Q old mid new same some one any = record {
     was_honest = λ h. some.was_honest (one.was_honest h);
-    catalog = one.catalog ∙ some.catalog;
     turned = λ h are fits view shows.
         let s = some.turned (one.was_honest h) are fits view shows in
-        let o = one.turned h (subst AreTables (sym some.catalog) are) s.2 s.0 s.1 in
+        let o = one.turned h (subst AreTables (sym same) are) s.2 s.0 s.1 in
         (o.0, o.1, o.2, (o.3.0 ∙ s.3.0, any (member_of old view)));
   }

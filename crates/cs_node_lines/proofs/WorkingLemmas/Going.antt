@@ -5,10 +5,9 @@ use Rattle.std.specs.Io.KnownBytes.{Appends}
 use Rattle.std.proofs.KnownBytes.{Appends-nil}
 use Rattle.cs_node_lines.specs.declared.asks.ask.Ask.{Ask}
 use Rattle.cs_replica.specs.Step.{Member, member_of}
-use Rattle.cs_opening.specs.moving.Moved.{IsStoreOpened}
+use Rattle.cs_opening.specs.Wider.{IsOpenedBy}
 use Rattle.cs_pending.specs.View.{View}
 use Rattle.cs_pending.specs.position.Laws.{FitsPosition}
-use Rattle.cs_pending.specs.position.Shows.{ShowsAt}
 use Rattle.cs_replica.specs.Holding.{Holding, Shows}
 use Rattle.cs_store.specs.declared.store.RowStore.{Ghosts}
 use Rattle.cs_value.specs.Catalog.{AreTables}
@@ -35,35 +34,32 @@ turn_behind step (a ∷ asked) [] one text had mid has before between after turn
 turn_behind step (a ∷ asked) (t ∷ texts) one text had mid has before between after turns later goes =
     (turns.0, turns.1, turns.2, turns.3, turn_behind step asked texts one text turns.1 mid has turns.0 between after turns.4 later goes)
 
-module _ {S A : Type 0} (g : Ghosts S) (step : List TableDef → ℕ → ℕ → Member → A → List ℕ → Member → Type 0) where
+module _ {S A : Type 0} (g : Ghosts S) (step : ℕ → ℕ → Member → A → List ℕ → Member → Type 0) where
   pub steps_none : (held : Holding S) → AllStepped g step [] [] held held
   steps_none held = record {
     later = omega arith;
     turns = record {
       was_honest = λ h. h;
-      catalog = refl;
       turned = λ h are fits view shows. (view, shows, fits, (refl, refl));
     };
   }
 
   pub steps_more : (old mid new : Holding S) (asked : List A) (texts : List (List ℕ)) (one : A) (text : List ℕ)
-      → AllStepped g step asked texts old mid → Stepped g step one text mid new → AllStepped g step (asked ++ one ∷ []) (texts ++ text ∷ []) old new
-  steps_more old mid new asked texts one text some last = record {
+      → AreTables mid.catalog → AllStepped g step asked texts old mid → Stepped g step one text mid new → AllStepped g step (asked ++ one ∷ []) (texts ++ text ∷ []) old new
+  steps_more old mid new asked texts one text its some last = record {
     later = omega (arith, some.later, last.later);
     turns = record {
       was_honest = λ h. some.turns.was_honest (last.turns.was_honest h);
-      catalog = last.turns.catalog ∙ some.turns.catalog;
       turned = λ h are fits view shows.
           let s = some.turns.turned (last.turns.was_honest h) are fits view shows in
-          let o = last.turns.turned h (subst AreTables (sym some.turns.catalog) are) s.2 s.0 s.1 in
+          let o = last.turns.turned h its s.2 s.0 s.1 in
           let had = g.failed old.store in
           let count = g.failed mid.store in
-          let has = g.failed new.store in
-          let goes = subst (λ (tables : List TableDef). step tables count has (member_of mid s.0) one text (member_of new o.0)) some.turns.catalog o.3 in (
+          let has = g.failed new.store in (
             o.0,
             o.1,
             o.2,
-            turn_behind (step old.catalog) asked texts one text had count has (member_of old view) (member_of mid s.0) (member_of new o.0) s.3 last.later goes,
+            turn_behind step asked texts one text had count has (member_of old view) (member_of mid s.0) (member_of new o.0) s.3 last.later o.3,
           );
     };
   }
@@ -80,27 +76,27 @@ module _ {S A : Type 0} (g : Ghosts S) (step : List TableDef → ℕ → ℕ →
   going_first asked before old = ([], [], refl, steps_none old, Appends-nil before)
 
   pub going_on : (asked rest more : List A) (one : A) (failed : Type 0) (before between after : Option (List ℕ)) (old now next : Holding S)
-      → rest ≡ one ∷ more → IsGoing asked rest before between old now → Tells g step one (Ok tt) failed between after now next
+      → rest ≡ one ∷ more → AreTables now.catalog → IsGoing asked rest before between old now → Tells g step one (Ok tt) failed between after now next
       → IsGoing asked more before after old next
-  going_on asked rest more one failed before between after old now next is (done, texts, all, turns, wrote) (text, goes, prints) = (
+  going_on asked rest more one failed before between after old now next is its (done, texts, all, turns, wrote) (text, goes, prints) = (
     done ++ one ∷ [],
     texts ++ text ∷ [],
     all ∙ ap (λ l. done ++ l) is ∙ sym (append_assoc done (one ∷ []) more),
-    steps_more old now next done texts one text turns goes,
+    steps_more old now next done texts one text its turns goes,
     prints_more before between after texts text wrote prints,
   )
 
   pub going_ends : (asked rest more : List A) (one : A) (fault : NodeFault) (failed : Type 0) (before between after : Option (List ℕ)) (old now next : Holding S)
-      → rest ≡ one ∷ more → IsGoing asked rest before between old now → Tells g step one (Err fault) failed between after now next
+      → rest ≡ one ∷ more → AreTables now.catalog → IsGoing asked rest before between old now → Tells g step one (Err fault) failed between after now next
       → TellsAll g step asked (Err fault) failed before after old next
-  going_ends asked rest more one fault failed before between after old now next is (done, texts, all, turns, wrote) (text, goes, prints) = (
+  going_ends asked rest more one fault failed before between after old now next is its (done, texts, all, turns, wrote) (text, goes, prints) = (
     done,
     one,
     more,
     texts,
     text,
     all ∙ ap (λ l. done ++ l) is,
-    steps_more old now next done texts one text turns goes,
+    steps_more old now next done texts one text its turns goes,
     breaks_off fault failed before between after (printed texts) text wrote prints,
   )
 
@@ -117,29 +113,27 @@ module _ {S : Type 0} (g : Ghosts S) (id : ℕ) where
   pub record Opened (tables : List TableDef) (store : S) (held : Holding S) : Type 0 where
     pub was_honest : g.honest held.store → g.honest store
     pub count : g.failed held.store ≡ g.failed store
-    pub opened : g.honest held.store → IsStoreOpened tables id (g.contents store) (g.contents held.store) held.position
+    pub opened : g.honest held.store → IsOpenedBy tables id (g.contents store) (g.contents held.store) held.catalog held.position
     pub shown : g.honest held.store → (view : View) × Shows g.contents held view
-    pub are : AreTables tables
+    pub are : AreTables held.catalog
     pub fits : FitsPosition held.position
-    pub catalog : held.catalog ≡ tables
 
-  pub worked : {A : Type 0} (step : List TableDef → ℕ → ℕ → Member → A → List ℕ → Member → Type 0) (tables : List TableDef) (store : S) (old new : Holding S) (asked : List A) (texts : List (List ℕ))
-      → Opened tables store old → AllStepped g step asked texts old new → Worked g tables id (step tables) store new.store asked texts
+  pub worked : {A : Type 0} (step : ℕ → ℕ → Member → A → List ℕ → Member → Type 0) (tables : List TableDef) (store : S) (old new : Holding S) (asked : List A) (texts : List (List ℕ))
+      → Opened tables store old → AllStepped g step asked texts old new → Worked g tables id step store new.store asked texts
   worked step tables store old new asked texts o counted = record {
     was_honest = λ h. o.was_honest (counted.turns.was_honest h);
     later = subst (λ (n : ℕ). n ≤ g.failed new.store) o.count counted.later;
     worked = λ h.
         let was = counted.turns.was_honest h in
         let seen = o.shown was in
-        let t = counted.turns.turned h (subst AreTables (sym o.catalog) o.are) o.fits seen.0 seen.1 in
-        let goes = subst (λ (x : List TableDef). InTurn (step x) (g.failed old.store) (g.failed new.store) (member_of old seen.0) asked texts (member_of new t.0)) o.catalog t.3 in (
+        let t = counted.turns.turned h o.are o.fits seen.0 seen.1 in (
           g.contents old.store,
           member_of old seen.0,
           member_of new t.0,
           o.opened was,
-          subst (λ (x : List TableDef). ShowsAt x (g.contents old.store) old.position seen.0) o.catalog seen.1,
-          subst (λ (n : ℕ). InTurn (step tables) n (g.failed new.store) (member_of old seen.0) asked texts (member_of new t.0)) o.count goes,
-          subst (λ (x : List TableDef). ShowsAt x (g.contents new.store) new.position t.0) (counted.turns.catalog ∙ o.catalog) t.1,
+          seen.1,
+          subst (λ (n : ℕ). InTurn step n (g.failed new.store) (member_of old seen.0) asked texts (member_of new t.0)) o.count t.3,
+          t.1,
         );
   }
 

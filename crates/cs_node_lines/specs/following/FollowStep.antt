@@ -55,37 +55,38 @@ outgoing_text TooLarge = refused_text (codes "TooLarge")
 outgoing_text (Changes changes) = changeset_text (groups_of changes)
 
 -- one case a line that only looks
-abbrev pub Shown : List TableDef → Member → Look → List ℕ → Type 0
-Shown tables member look.Place text = text ≡ line (replica_text member.position.id member.position)
-Shown tables member (look.Rows name) text = TellsRows (has_table tables name) member.view.tables name text
-Shown tables member (look.Row name key) text = text ≡ row_told (has_table tables name) member.view.tables name (key_bytes key)
-Shown tables member look.Pending text = (outgoing : Outgoing) × IsOutgoing tables member.view.pending outgoing × (text ≡ outgoing_text outgoing)
+abbrev pub Shown : Member → Look → List ℕ → Type 0
+Shown member look.Place text = text ≡ line (replica_text member.position.id member.position)
+Shown member (look.Rows name) text = TellsRows (has_table member.tables name) member.view.tables name text
+Shown member (look.Row name key) text = text ≡ row_told (has_table member.tables name) member.view.tables name (key_bytes key)
+Shown member look.Pending text = (outgoing : Outgoing) × IsOutgoing member.tables member.view.pending outgoing × (text ≡ outgoing_text outgoing)
 
-abbrev pub LookStep : List TableDef → ℕ → ℕ → Member → Look → List ℕ → Member → Type 0
-LookStep tables had has before asked text after = (after ≡ before) × (Shown tables before asked text ⊎ ReadsNone had has text)
+abbrev pub LookStep : ℕ → ℕ → Member → Look → List ℕ → Member → Type 0
+LookStep had has before asked text after = (after ≡ before) × (Shown before asked text ⊎ ReadsNone had has text)
 
 -- ---- what is done
 
--- a line of a node, where an answer tells also at what a wish stopped
+-- a line of a node, where an answer tells also at what a wish stopped. `tables` are those that were handed: their names are told, and
+-- their key columns are known. The replica's own may have more columns, none of them in the key
 abbrev pub AskStep : List TableDef → ℕ → ℕ → Member → Ask → List ℕ → Member → Type 0
-AskStep tables had has before (OnEdit edit) text after = LineStep tables had has before (OnEdit edit) text after
-AskStep tables had has before Push text after = LineStep tables had has before Push text after
-AskStep tables had has before Resend text after = LineStep tables had has before Resend text after
-AskStep tables had has before (Pull limit) text after = LineStep tables had has before (Pull limit) text after
-AskStep tables had has before (Catch limit) text after = LineStep tables had has before (Catch limit) text after
+AskStep tables had has before (OnEdit edit) text after = LineStep had has before (OnEdit edit) text after
+AskStep tables had has before Push text after = LineStep had has before Push text after
+AskStep tables had has before Resend text after = LineStep had has before Resend text after
+AskStep tables had has before (Pull limit) text after = LineStep had has before (Pull limit) text after
+AskStep tables had has before (Catch limit) text after = LineStep had has before (Catch limit) text after
 AskStep tables had has before (Answer bytes wishes) text after = SeesAnswer tables had has before bytes wishes text after
-AskStep tables had has before Dump text after = LineStep tables had has before Dump text after
+AskStep tables had has before Dump text after = LineStep had has before Dump text after
 
 -- what a line asks is done, or shown; or it can't be read, and nothing is done
 abbrev pub ReadStep : List TableDef → ℕ → ℕ → Member → Option Ask → Option Look → List ℕ → Member → Type 0
 ReadStep tables had has before (Some ask) look text after = AskStep tables had has before ask text after
-ReadStep tables had has before None (Some look) text after = LookStep tables had has before look text after
+ReadStep tables had has before None (Some look) text after = LookStep had has before look text after
 ReadStep tables had has before None None text after = (after ≡ before) × (text ≡ unread_text)
 
 -- what a request makes of a replica by its first line, and the lines behind that, where it says how many come
 abbrev pub RequestStep : List TableDef → ℕ → ℕ → Member → Option ℕ → List ℕ → List (List ℕ) → List ℕ → Member → Type 0
 RequestStep tables had has before None first more text after = ReadStep tables had has before (ask_in tables first) (look_in first) text after
-RequestStep tables had has before (Some count) first more text after = ReadEditsStep tables had has before (all_edits_in tables count more) text after
+RequestStep tables had has before (Some count) first more text after = ReadEditsStep had has before (all_edits_in tables count more) text after
 
 -- what a request, in lines without their line feeds, makes of a replica, and its text; or memory was refused, and nothing is done
 abbrev pub FollowStep : List TableDef → ℕ → ℕ → Member → List (List ℕ) → List ℕ → Member → Type 0

@@ -31,9 +31,9 @@ SomeListOfRequests = (lines : List (List ℕ)) → (requests : List (List (List 
 -- what is heard of an answer, with the clash that is seen, is heard by those wishes
 abbrev pub SeenIsHeard : Type 0
 SeenIsHeard =
-    (tables : List TableDef) (before after : Member) (answer : Answer) (wishes : List Wish) (result : Result Told AnswerFault) (seen : Option Clash)
-    → HearsSeeing tables before answer wishes result seen after
-    → Hears tables before answer wishes result after
+    (before after : Member) (answer : Answer) (wishes : List Wish) (result : Result Told AnswerFault) (seen : Option Clash)
+    → HearsSeeing before answer wishes result seen after
+    → Hears before answer wishes result after
 
 -- the text says nothing of its request, or nothing of the clash at which a wish stopped, for which memory was refused
 abbrev pub SaysNothing : List ℕ → Type 0
@@ -43,26 +43,26 @@ SaysNothing text = SaysRefused text ⊎ ((count : ℕ) × (version : ℕ) × (te
 abbrev pub OneFollowStep : Type 0
 OneFollowStep =
     (tables : List TableDef) (asked : List (List ℕ)) (some other : List ℕ) (had has its_had its_has : ℕ) (before its one last : Member)
-    → AreTables tables
-    → IsShown tables before
-    → IsShown tables its
-    → IsSameMember tables before its
+    → AreTables before.tables
+    → IsShown before
+    → IsShown its
+    → IsSameMember before its
     → (SaysNothing some → ⊥)
     → (SaysNothing other → ⊥)
     → FollowStep tables had has before asked some one
     → FollowStep tables its_had its_has its asked other last
-    → (some ≡ other) × IsSameMember tables one last
+    → (some ≡ other) × IsSameMember one last
 
 -- so do requests one behind another, where no text says nothing
 abbrev pub OneFollowRun : Type 0
 OneFollowRun =
     (tables : List TableDef) (requests : List (List (List ℕ))) (some other : List (List ℕ)) (had has its_had its_has : ℕ) (before its one last : Member)
-    → AreTables tables
-    → IsShown tables before
-    → IsShown tables its
-    → IsSameMember tables before its
+    → AreTables before.tables
+    → IsShown before
+    → IsShown its
+    → IsSameMember before its
     → AllByRecursion (λ (text : List ℕ). SaysNothing text → ⊥) some
     → AllByRecursion (λ (text : List ℕ). SaysNothing text → ⊥) other
     → InTurn (FollowStep tables) had has before requests some one
     → InTurn (FollowStep tables) its_had its_has its requests other last
-    → (some ≡ other) × IsSameMember tables one last
+    → (some ≡ other) × IsSameMember one last

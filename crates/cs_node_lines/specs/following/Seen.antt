@@ -38,11 +38,11 @@ pub record IsSeen (before : Seeing) (clash : Clash) (wish : Wish) (after : Seein
   pub shown : after.seen ≡ seen_by wish clash before.seen
 
 -- a replica's answer of the hub, by these wishes: what it makes of the replica, what is told of that, and the clash that is seen
-pub record HearsSeeing (tables : List TableDef) (before : Member) (answer : Answer) (wishes : List Wish) (result : Result Told AnswerFault) (seen : Option Clash) (after : Member) : Type 0 where
+pub record HearsSeeing (before : Member) (answer : Answer) (wishes : List Wish) (result : Result Told AnswerFault) (seen : Option Clash) (after : Member) : Type 0 where
   pub left : Contents
   pub unused : List Wish
-  pub answers : Answers IsSeen tables answer result before.position before.view (record { wishes = wishes; seen = None }) after.position left (record { wishes = unused; seen = seen })
-  pub shows : ShowsAt tables left after.position after.view
+  pub answers : Answers IsSeen before.tables answer result before.position before.view (record { wishes = wishes; seen = None }) after.tables after.position left (record { wishes = unused; seen = seen })
+  pub shows : ShowsAt after.tables left after.position after.view
 
 -- what became of an answer; where a wish stopped, also at what
 abbrev pub seen_text : List TableDef → Result Told AnswerFault → Option Clash → ℕ → List ℕ
@@ -69,6 +69,6 @@ IsSeenText tables result seen version text =
 abbrev pub SeesAnswer : List TableDef → ℕ → ℕ → Member → List ℕ → List Wish → List ℕ → Member → Type 0
 SeesAnswer tables had has before bytes wishes text after =
     ((answer : Answer) × (result : Result Told AnswerFault) × (seen : Option Clash) × FitsAnswer answer × (bytes ≡ answer_spelling answer)
-    × HearsSeeing tables before answer wishes result seen after × (SaysDevice result → MoreFailures had has)
+    × HearsSeeing before answer wishes result seen after × (SaysDevice result → MoreFailures had has)
     × IsSeenText tables result seen after.position.version text)
     ⊎ TakesNone before bytes text after

@@ -46,12 +46,12 @@ all_edited_text (Err Device) = refused_text (codes "Device")
 all_edited_text (Err (Refused at fault)) = refused_text (decimal (at + 1) ++ codes " " ++ edit_fault_text fault)
 
 -- all are made, or none, and this is printed
-abbrev pub EditsStep : List TableDef → ℕ → ℕ → Member → List Edit → List ℕ → Member → Type 0
-EditsStep tables had has before edits text after =
-    (result : Result (Unit {0}) EditsFault) × AreEditedTo tables edits result before after
+abbrev pub EditsStep : ℕ → ℕ → Member → List Edit → List ℕ → Member → Type 0
+EditsStep had has before edits text after =
+    (result : Result (Unit {0}) EditsFault) × AreEditedTo edits result before after
     × (result ≡ Err Device → MoreFailures had has) × (text ≡ all_edited_text result)
 
 -- so it is with what can be read; else nothing is done
-abbrev pub ReadEditsStep : List TableDef → ℕ → ℕ → Member → Option (List Edit) → List ℕ → Member → Type 0
-ReadEditsStep tables had has before (Some edits) text after = EditsStep tables had has before edits text after
-ReadEditsStep tables had has before None text after = (after ≡ before) × (text ≡ unread_text)
+abbrev pub ReadEditsStep : ℕ → ℕ → Member → Option (List Edit) → List ℕ → Member → Type 0
+ReadEditsStep had has before (Some edits) text after = EditsStep had has before edits text after
+ReadEditsStep had has before None text after = (after ≡ before) × (text ≡ unread_text)

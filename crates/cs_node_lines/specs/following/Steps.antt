@@ -93,7 +93,7 @@ NotesStop tables result note seen = (count : ℕ) → result ≡ Ok (Stopped cou
 -- the answer was heard so
 abbrev pub HearsNoting : List TableDef → Member → Answer → List Wish → Result Told AnswerFault → Note → Member → Type 0
 HearsNoting tables before answer wishes result note after =
-    (seen : Option Clash) × HearsSeeing tables before answer wishes result seen after × NotesStop tables result note seen
+    (seen : Option Clash) × HearsSeeing before answer wishes result seen after × NotesStop tables result note seen
 
 -- ---- what is shown
 
@@ -116,7 +116,7 @@ AloneStep tables had has before asked text after =
 -- what lines of several edits make of it
 abbrev pub AllStep : List TableDef → ℕ → ℕ → Member → List (List ℕ) → List ℕ → Member → Type 0
 AllStep tables had has before lines text after =
-    ReadEditsStep tables had has before (edits_in tables lines) text after ⊎ ((after ≡ before) × SaysMemory text)
+    ReadEditsStep had has before (edits_in tables lines) text after ⊎ ((after ≡ before) × SaysMemory text)
 
 -- this is gathered of the lines of several edits
 abbrev pub IsGathered : List TableDef → Gathered → List (List ℕ) → Type 0
@@ -142,14 +142,14 @@ Gathers tables count (Err fault) read_failed input left =
 
 -- ---- requests of an input
 
-module _ {S : Type 0} (g : Ghosts S) where
+module _ {S : Type 0} (g : Ghosts S) (tables : List TableDef) where
   -- the lines of a request were taken, whole or not, and its step made with this text
   abbrev pub TakesStep : Option (List ℕ) → Option (List ℕ) → Holding S → Holding S → List (List ℕ) → List ℕ → Type 0
-  TakesStep input left old new asked text = AreTaken input left asked × Stepped g FollowStep asked text old new
+  TakesStep input left old new asked text = AreTaken input left asked × Stepped g (FollowStep tables) asked text old new
 
   -- the input ended within a request, which can't be read
   abbrev pub TakesPart : Option (List ℕ) → Holding S → Holding S → List (List ℕ) → Type 0
-  TakesPart input old new asked = AreAllLines input asked × IsUnfinished asked × Stepped g FollowStep asked unread_text old new
+  TakesPart input old new asked = AreAllLines input asked × IsUnfinished asked × Stepped g (FollowStep tables) asked unread_text old new
 
   -- there was no line to take: the input is at its end, or its reader failed, maybe within a request; the replica stays
   abbrev pub TakesNoLine : Option (List ℕ) → Option (List ℕ) → Holding S → Holding S → Type 0
@@ -181,7 +181,7 @@ module _ {S : Type 0} (g : Ghosts S) where
       ⊎ ((asked : List (List ℕ)) × TakesPart input old new asked × Appends before after (line unread_text))
   FollowsNext (Err fault) read_failed write_failed input left before after old new =
       ((fault ≡ Read) × BreaksReading read_failed input left old new × Keeps before after)
-      ⊎ ((asked : List (List ℕ)) × (text : List ℕ) × IsBegun asked × AreFirstLines input asked × Stepped g FollowStep asked text old new
+      ⊎ ((asked : List (List ℕ)) × (text : List ℕ) × IsBegun asked × AreFirstLines input asked × Stepped g (FollowStep tables) asked text old new
       × Prints (Err fault) write_failed before after (line text))
 
   -- so it was with all requests, or up to one
@@ -189,13 +189,13 @@ module _ {S : Type 0} (g : Ghosts S) where
   FollowsAll (Ok done) read_failed write_failed input left before after old new =
       (lines : List (List ℕ)) × (requests : List (List (List ℕ))) × (part : List (List ℕ)) × (texts : List (List ℕ))
       × AreAllLines input lines × AreRequests lines requests part
-      × AllStepped g FollowStep (with_part requests part) texts old new × Appends before after (replied texts)
+      × AllStepped g (FollowStep tables) (with_part requests part) texts old new × Appends before after (replied texts)
   FollowsAll (Err fault) read_failed write_failed input left before after old new =
       ((fault ≡ Read)
       × ((lines : List (List ℕ)) × (requests : List (List (List ℕ))) × (part : List (List ℕ)) × (texts : List (List ℕ))
       × AreAllBefore input left lines × AreRequests lines requests part
-      × AllStepped g FollowStep requests texts old new × Appends before after (replied texts) × (read_failed ⊎ (length requests ≡ ASKS))))
+      × AllStepped g (FollowStep tables) requests texts old new × Appends before after (replied texts) × (read_failed ⊎ (length requests ≡ ASKS))))
       ⊎ ((done : List (List (List ℕ))) × (asked : List (List ℕ)) × (texts : List (List ℕ)) × (text : List ℕ)
       × AreFirstLines input (joined (done ++ asked ∷ [])) × AllByRecursion IsWhole done × IsBegun asked
-      × AllStepped g FollowStep (done ++ asked ∷ []) (texts ++ text ∷ []) old new
+      × AllStepped g (FollowStep tables) (done ++ asked ∷ []) (texts ++ text ∷ []) old new
       × BreaksOff fault write_failed before after (replied texts) (line text))

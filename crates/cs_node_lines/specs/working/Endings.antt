@@ -6,7 +6,7 @@ use Rattle.cs_node_lines.specs.declared.asks.ask.Ask.{Ask}
 use Rattle.cs_node_lines.specs.declared.asks.fault.ReadFault.{ReadFault}
 use Rattle.cs_node_lines.specs.declared.asks.fault.ReadFault.TheVariants as reading
 use Rattle.cs_replica.specs.Step.{Member}
-use Rattle.cs_opening.specs.moving.Moved.{IsStoreFault, IsStoreOpened}
+use Rattle.cs_opening.specs.Wider.{IsOpenedBy, IsRefused}
 use Rattle.cs_opening.specs.declared.fault.OpenFault.{OpenFault}
 use Rattle.cs_opening.specs.declared.fault.OpenFault.TheVariants as opening
 use Rattle.cs_pending.specs.position.Shows.{ShowsAt}
@@ -45,14 +45,14 @@ BreaksOff (Line number) write_failed old new before text = ⊥
 BreaksOff (Open fault) write_failed old new before text = ⊥
 
 module _ {S : Type 0} (g : Ghosts S) (tables : List TableDef) (id : ℕ) where
-  -- where the store is honest in the end, it was opened as the replica with this id. These steps were made of it, with these texts. They
-  -- go from its count of failures to that in the end, and it shows what they left
+  -- where the store is honest in the end, it was opened as the replica with this id, by the handed tables or wider ones that it keeps.
+  -- These steps were made of it, with these texts. They go from its count of failures to that in the end, and it shows what they left
   pub record Worked {A : Type 0} (step : ℕ → ℕ → Member → A → List ℕ → Member → Type 0) (store last : S) (asked : List A) (texts : List (List ℕ)) : Type 0 where
     pub was_honest : g.honest last → g.honest store
     pub later : g.failed store ≤ g.failed last
     pub worked : g.honest last → (first : Contents) × (before : Member) × (after : Member)
-        × IsStoreOpened tables id (g.contents store) first before.position × ShowsAt tables first before.position before.view
-        × InTurn step (g.failed store) (g.failed last) before asked texts after × ShowsAt tables (g.contents last) after.position after.view
+        × IsOpenedBy tables id (g.contents store) first before.tables before.position × ShowsAt before.tables first before.position before.view
+        × InTurn step (g.failed store) (g.failed last) before asked texts after × ShowsAt after.tables (g.contents last) after.position after.view
 
   -- where the store is honest, it holds what it held, and isn't opened for this reason: for a failed device only where its count
   -- rose
@@ -60,7 +60,7 @@ module _ {S : Type 0} (g : Ghosts S) (tables : List TableDef) (id : ℕ) where
     pub was_honest : g.honest last → g.honest store
     pub later : g.failed store ≤ g.failed last
     pub same : g.honest last → g.contents last ≡ g.contents store
-    pub refused : g.honest last → IsStoreFault tables id (g.contents store) fault
+    pub refused : g.honest last → IsRefused tables id (g.contents store) fault
     pub cause : fault ≡ opening.Device → MoreFailures (g.failed store) (g.failed last)
 
   -- some of the lines were worked. The text of the last of them isn't printed whole: memory was refused for it, or the writer
@@ -68,13 +68,13 @@ module _ {S : Type 0} (g : Ghosts S) (tables : List TableDef) (id : ℕ) where
   abbrev pub WorkedUpTo : List Ask → S → S → NodeFault → Type 0 → Option (List ℕ) → Option (List ℕ) → Type 0
   WorkedUpTo asks store last fault write_failed old new =
       (done : List Ask) × (ask : Ask) × (later : List Ask) × (texts : List (List ℕ)) × (text : List ℕ)
-      × (asks ≡ done ++ ask ∷ later) × Worked (LineStep tables) store last (done ++ ask ∷ []) (texts ++ text ∷ [])
+      × (asks ≡ done ++ ask ∷ later) × Worked LineStep store last (done ++ ask ∷ []) (texts ++ text ∷ [])
       × BreaksOff fault write_failed old new (printed texts) text
 
   -- all lines were worked and their texts are printed; or the replica isn't opened, and nothing is; or it ended at a line
   abbrev pub EndsWorking : List Ask → S → S → Type 0 → Option (List ℕ) → Option (List ℕ) → Result ⊤ NodeFault → Type 0
   EndsWorking asks store last write_failed old new (Ok done) =
-      (texts : List (List ℕ)) × Worked (LineStep tables) store last asks texts × Appends old new (printed texts)
+      (texts : List (List ℕ)) × Worked LineStep store last asks texts × Appends old new (printed texts)
   EndsWorking asks store last write_failed old new (Err fault) =
       ((why : OpenFault) × (fault ≡ of_opening why) × NotOpened store last why × Keeps old new)
       ⊎ WorkedUpTo asks store last fault write_failed old new

@@ -9,7 +9,6 @@ use Rattle.cs_replica.specs.Laws.{IsOfAnswer}
 use Rattle.cs_text.specs.Text.{line}
 use Rattle.cs_node_lines.specs.told.Told.{fault_text}
 use Rattle.cs_value.specs.Catalog.{AreTables}
-use Rattle.cs_value.specs.declared.catalog.TableDef.{TableDef}
 use Rattle.cs_node_lines.specs.working.LineStep.{InTurn, LineStep, SaysMemory}
 use Rattle.cs_node_lines.specs.working.Texts.{refused_text}
 
@@ -23,27 +22,27 @@ SaysRefused text =
 -- a line has one text at the same replica, and leaves the same replica: but where its text says nothing of it
 abbrev pub OneLineStep : Type 0
 OneLineStep =
-    (tables : List TableDef) (ask : Ask) (some other : List ℕ) (had has its_had its_has : ℕ) (before its one last : Member)
-    → AreTables tables
-    → IsShown tables before
-    → IsShown tables its
-    → IsSameMember tables before its
+    (ask : Ask) (some other : List ℕ) (had has its_had its_has : ℕ) (before its one last : Member)
+    → AreTables before.tables
+    → IsShown before
+    → IsShown its
+    → IsSameMember before its
     → (SaysRefused some → ⊥)
     → (SaysRefused other → ⊥)
-    → LineStep tables had has before ask some one
-    → LineStep tables its_had its_has its ask other last
-    → (some ≡ other) × IsSameMember tables one last
+    → LineStep had has before ask some one
+    → LineStep its_had its_has its ask other last
+    → (some ≡ other) × IsSameMember one last
 
 -- so do lines one behind another, where no text says nothing
 abbrev pub OneLineRun : Type 0
 OneLineRun =
-    (tables : List TableDef) (asks : List Ask) (some other : List (List ℕ)) (had has its_had its_has : ℕ) (before its one last : Member)
-    → AreTables tables
-    → IsShown tables before
-    → IsShown tables its
-    → IsSameMember tables before its
+    (asks : List Ask) (some other : List (List ℕ)) (had has its_had its_has : ℕ) (before its one last : Member)
+    → AreTables before.tables
+    → IsShown before
+    → IsShown its
+    → IsSameMember before its
     → AllByRecursion (λ (text : List ℕ). SaysRefused text → ⊥) some
     → AllByRecursion (λ (text : List ℕ). SaysRefused text → ⊥) other
-    → InTurn (LineStep tables) had has before asks some one
-    → InTurn (LineStep tables) its_had its_has its asks other last
-    → (some ≡ other) × IsSameMember tables one last
+    → InTurn LineStep had has before asks some one
+    → InTurn LineStep its_had its_has its asks other last
+    → (some ≡ other) × IsSameMember one last

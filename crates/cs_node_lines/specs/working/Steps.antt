@@ -1,5 +1,5 @@
 -- On the way from a line to a run: no definition that a public clause cites.
-use Rattle.std.specs.Prelude.{◌≡◌, ◌≤◌, ⊤, ℕ, List, [], ◌∷◌, ◌++◌, Option, Result, Ok, Err}
+use Rattle.std.specs.Prelude.{◌≡◌, ◌≤◌, ⊤, ℕ, List, [], ◌∷◌, ◌++◌, Option, Result, Ok, Err, slice_get, Some}
 use Rattle.std.specs.declared.alloc.AllocError.{AllocError}
 use Rattle.std.specs.Io.KnownBytes.{Appends, Keeps}
 use Rattle.cs_lines.specs.Writing.{AppendsFront}
@@ -37,20 +37,21 @@ Prints (Err Read) write_failed old new text = ⊥
 Prints (Err (Line number)) write_failed old new text = ⊥
 Prints (Err (Open fault)) write_failed old new text = ⊥
 
--- the lines of the rows of the table with this name stand behind a text
-abbrev pub PutsTable : State → List ℕ → List ℕ → List ℕ → Type 0
-PutsTable state name old new =
-    (rows : List (List ℕ × List Value)) × AreRowsOf (state name) rows × (new ≡ old ++ rows_text name rows)
+-- the lines of the rows of the table with this number stand behind a text
+abbrev pub PutsTable : List TableDef → ℕ → State → List ℕ → List ℕ → Type 0
+PutsTable tables table state old new =
+    (def : TableDef) × (rows : List (List ℕ × List Value)) × (slice_get tables table ≡ Some def)
+    × AreRowsOf (state def.name) rows × (new ≡ old ++ rows_text def.name rows)
 
--- `step` is what is made of a replica of these tables by what is asked
-module _ {S A : Type 0} (g : Ghosts S) (step : List TableDef → ℕ → ℕ → Member → A → List ℕ → Member → Type 0) where
+-- `step` is what is made of a replica by what is asked
+module _ {S A : Type 0} (g : Ghosts S) (step : ℕ → ℕ → Member → A → List ℕ → Member → Type 0) where
   -- the step was made with this text
   abbrev pub Stepped : A → List ℕ → Holding S → Holding S → Type 0
-  Stepped asked text old new = Counted g (λ had has before after. step old.catalog had has before asked text after) old new
+  Stepped asked text old new = Counted g (λ had has before after. step had has before asked text after) old new
 
   -- so were steps one behind another
   abbrev pub AllStepped : List A → List (List ℕ) → Holding S → Holding S → Type 0
-  AllStepped asked texts old new = Counted g (λ had has before after. InTurn (step old.catalog) had has before asked texts after) old new
+  AllStepped asked texts old new = Counted g (λ had has before after. InTurn step had has before asked texts after) old new
 
   -- the step was made, and this is its reply
   abbrev pub Makes : A → Result Reply AllocError → Holding S → Holding S → Type 0

@@ -10,7 +10,7 @@ ghost use Rattle.cs_node_lines.specs.working.Replies.{reply_text};
 ghost use Rattle.cs_text.specs.Text.{line as lined};
 
 use crate::following::next::{Next, next_reply};
-use crate::working::{NodeFault, Reply, put_text};
+use crate::working::{NodeFault, Reply, in_order, put_text};
 use cs_lines::{ASKS, LineInput, LineOutput};
 use cs_replica::Replica;
 use cs_store::RowStore;
@@ -39,8 +39,7 @@ fn follow_next<S: RowStore, R: LineInput, W: LineOutput>(
     line: &mut Vec<u8>,
     writer: &mut W,
 ) -> Result<bool, NodeFault>
-    requires { replica.old.catalog ≡ catalog.now }
-    ensures told { FollowsNext S.RowStore result (R.failed reader.new) (W.failed writer.new) (ended (R.remaining reader.old)) (ended (R.remaining reader.new))
+    ensures told { FollowsNext S.RowStore catalog.now result (R.failed reader.new) (W.failed writer.new) (ended (R.remaining reader.old)) (ended (R.remaining reader.new))
         (W.contents writer.old) (W.contents writer.new) replica.old replica.new }
     ensures sent { OnOk result (W.sent writer.old → W.sent writer.new) }
 {
@@ -65,14 +64,14 @@ fn follow<S: RowStore, R: LineInput, W: LineOutput>(
     reader: &mut R,
     writer: &mut W,
 ) -> Result<(), NodeFault>
-    requires { replica.old.catalog ≡ catalog.now }
-    ensures told { FollowsAll S.RowStore result (R.failed reader.new) (W.failed writer.new) (ended (R.remaining reader.old)) (ended (R.remaining reader.new))
+    ensures told { FollowsAll S.RowStore catalog.now result (R.failed reader.new) (W.failed writer.new) (ended (R.remaining reader.old)) (ended (R.remaining reader.new))
         (W.contents writer.old) (W.contents writer.new) replica.old replica.new }
     ensures sent { OnOk result (W.sent writer.old → W.sent writer.new) }
 {
     cs_lines::laws::lines_taken();
     let mut line = Vec::new(alloc);
     for _asked in 0..ASKS {
+        in_order(replica);
         match follow_next(alloc, replica, catalog, reader, &mut line, writer) {
             Ok(true) => {}
             Ok(false) => return Ok(()),
@@ -84,8 +83,8 @@ fn follow<S: RowStore, R: LineInput, W: LineOutput>(
 
 /// Opens the replica with this id over a store, and works the requests of an input. The text of each and an empty line behind it are
 /// printed and sent before the next is read. What it commits is committed before. One that can't be read has the text `unread`, also
-/// where the input ends within it. One for which memory is refused has `refused Memory`, and nothing of it is done. What stands behind the last line feed is no line: nothing is
-/// done or printed of it. An id is at most 4,294,967,294. The store comes back in any case.
+/// where the input ends within it. One for which memory is refused has `refused Memory`, and nothing of it is done. What stands behind
+/// the last line feed is no line: nothing is done or printed of it. An id is at most 4,294,967,294. The store comes back in any case.
 ///
 /// # Errors
 ///
@@ -106,10 +105,10 @@ pub fn follow_on<S: RowStore, R: LineInput, W: LineOutput>(
         (R.failed reader.new) (W.failed writer.new) (W.contents writer.old) (W.contents writer.new) result.0 }
     ensures sent { OnOk result.0 (W.sent writer.old → W.sent writer.new) }
 {
-    let _tables = catalog.tables();
     match Replica::open(alloc, store, catalog, id) {
         Ok(mut replica) => {
             replica.shown();
+            in_order(&replica);
             let ended = follow(alloc, &mut replica, catalog, reader, writer);
             (ended, replica.close())
         }

@@ -30,6 +30,7 @@ pub fn one_follow_run()
     ensures { OneFollowRun }
 {
     one_follow_step();
+    cs_widening::laws::widened_are_tables();
 }
 
 /// What is heard of an answer with the clash that is seen is what the wishes make of it.

@@ -24,7 +24,7 @@ use cs_pending::rows::RowAtKey;
 use cs_replica::Replica;
 use cs_store::{RowStore, StoreFault};
 use cs_text::ChangesetText;
-use cs_value::{Catalog, Memory, Text, Value};
+use cs_value::{Memory, Text, Value};
 use std::alloc::Global;
 
 /// The row behind the bytes of a key, if it is one of the rows.
@@ -85,7 +85,7 @@ fn read_reply(read: Result<String, StoreFault>) -> Reply
 }
 
 fn place_line<S: RowStore>(alloc: Global, replica: &Replica<S>) -> Reply
-    ensures { (had : ℕ) → (has : ℕ) → (before : Member) → before.position ≡ replica.now.position → LookStep replica.now.catalog had has before look.Place (reply_text result) before }
+    ensures { (had : ℕ) → (has : ℕ) → (before : Member) → before.position ≡ replica.now.position → LookStep had has before look.Place (reply_text result) before }
 {
     match place_of(alloc, replica) {
         Ok(text) => Reply::Text(text),
@@ -93,16 +93,10 @@ fn place_line<S: RowStore>(alloc: Global, replica: &Replica<S>) -> Reply
     }
 }
 
-fn rows_line<S: RowStore>(
-    alloc: Global,
-    replica: &mut Replica<S>,
-    catalog: &Catalog,
-    name: &Text,
-) -> Reply
-    requires { replica.old.catalog ≡ catalog.now }
+fn rows_line<S: RowStore>(alloc: Global, replica: &mut Replica<S>, name: &Text) -> Reply
     ensures { Stepped S.RowStore LookStep (look.Rows name.now) (reply_text result) replica.old replica.new }
 {
-    match catalog.find(name.as_str()) {
+    match replica.catalog().find(name.as_str()) {
         Some(table) => read_reply(row_lines(alloc, replica, table, name)),
         None => Reply::Refused("NoTable"),
     }
@@ -111,14 +105,12 @@ fn rows_line<S: RowStore>(
 fn row_line<S: RowStore>(
     alloc: Global,
     replica: &mut Replica<S>,
-    catalog: &Catalog,
     name: &Text,
     key: &[Value],
 ) -> Reply
-    requires { replica.old.catalog ≡ catalog.now }
     ensures { Stepped S.RowStore LookStep (look.Row name.now key.now) (reply_text result) replica.old replica.new }
 {
-    match catalog.find(name.as_str()) {
+    match replica.catalog().find(name.as_str()) {
         Some(table) => read_reply(row_line_of(alloc, replica, table, name, key)),
         None => Reply::Refused("NoTable"),
     }
@@ -156,19 +148,13 @@ fn pending_line<S: RowStore>(alloc: Global, replica: &mut Replica<S>) -> Reply
 }
 
 /// Shows what a line asks to be shown.
-pub(crate) fn look_line<S: RowStore>(
-    alloc: Global,
-    replica: &mut Replica<S>,
-    catalog: &Catalog,
-    look: &Look,
-) -> Reply
-    requires { replica.old.catalog ≡ catalog.now }
+pub(crate) fn look_line<S: RowStore>(alloc: Global, replica: &mut Replica<S>, look: &Look) -> Reply
     ensures { Stepped S.RowStore LookStep look.now (reply_text result) replica.old replica.new }
 {
     match look {
         Look::Place => place_line(alloc, replica),
-        Look::Rows(name) => rows_line(alloc, replica, catalog, name),
-        Look::Row { table, key } => row_line(alloc, replica, catalog, table, key.as_slice()),
+        Look::Rows(name) => rows_line(alloc, replica, name),
+        Look::Row { table, key } => row_line(alloc, replica, table, key.as_slice()),
         Look::Pending => pending_line(alloc, replica),
     }
 }

@@ -38,14 +38,13 @@ fn ask_line<S: RowStore>(
     catalog: &Catalog,
     ask: &Ask,
 ) -> Result<Reply, Memory>
-    requires { replica.old.catalog ≡ catalog.now }
-    ensures { Makes S.RowStore AskStep ask.now result replica.old replica.new }
+    ensures { Makes S.RowStore (AskStep catalog.now) ask.now result replica.old replica.new }
 {
     match ask {
         Ask::Answer { bytes, wishes } => {
             seen_line(alloc, replica, catalog, bytes.as_slice(), wishes.as_slice())
         }
-        ask => work_ask(alloc, replica, catalog, ask),
+        ask => work_ask(alloc, replica, ask),
     }
 }
 
@@ -56,8 +55,7 @@ fn follow_line<S: RowStore>(
     catalog: &Catalog,
     line: &[u8],
 ) -> Result<Reply, Memory>
-    requires { replica.old.catalog ≡ catalog.now }
-    ensures { Makes S.RowStore AloneStep line.now result replica.old replica.new }
+    ensures { Makes S.RowStore (AloneStep catalog.now) line.now result replica.old replica.new }
 {
     match read_ask(alloc, catalog, line) {
         Ok(Some(ask)) => return ask_line(alloc, replica, catalog, &ask),
@@ -65,7 +63,7 @@ fn follow_line<S: RowStore>(
         Err(_) => return Ok(Reply::Refused("Memory")),
     }
     match read_look(alloc, line) {
-        Ok(Some(look)) => Ok(look_line(alloc, replica, catalog, &look)),
+        Ok(Some(look)) => Ok(look_line(alloc, replica, &look)),
         Ok(None) => Ok(Reply::Unread),
         Err(_) => Ok(Reply::Refused("Memory")),
     }
@@ -75,10 +73,11 @@ fn follow_line<S: RowStore>(
 fn gathered_reply<S: RowStore>(
     alloc: Global,
     replica: &mut Replica<S>,
+    catalog: &Catalog,
     gathered: &Gathered,
 ) -> Reply
-    ensures { (lines : List (List ℕ)) → IsGathered replica.old.catalog gathered.now lines
-        → Stepped S.RowStore AllStep lines (reply_text result) replica.old replica.new }
+    ensures { (lines : List (List ℕ)) → IsGathered catalog.now gathered.now lines
+        → Stepped S.RowStore (AllStep catalog.now) lines (reply_text result) replica.old replica.new }
 {
     match gathered {
         Gathered::Edits(edits) => edits_reply(alloc, replica, edits.as_slice()),
@@ -96,12 +95,11 @@ fn next_several<S: RowStore, R: LineInput>(
     reader: &mut R,
     line: &mut Vec<u8>,
 ) -> Result<Next, NodeFault>
-    requires { replica.old.catalog ≡ catalog.now }
     ensures { (input : Option (List ℕ)) → TakesLine [] input (ended (R.remaining reader.old)) line.old.items → several_in line.old.items ≡ Some count
-        → Replies S.RowStore result (R.failed reader.new) input (ended (R.remaining reader.new)) replica.old replica.new }
+        → Replies S.RowStore catalog.now result (R.failed reader.new) input (ended (R.remaining reader.new)) replica.old replica.new }
 {
     match gather_lines(alloc, catalog, count, reader, line) {
-        Ok(Some(gathered)) => Ok(Next::Replied(gathered_reply(alloc, replica, &gathered))),
+        Ok(Some(gathered)) => Ok(Next::Replied(gathered_reply(alloc, replica, catalog, &gathered))),
         Ok(None) => Ok(Next::Cut),
         Err(fault) => Err(fault),
     }
@@ -116,8 +114,7 @@ pub(crate) fn next_reply<S: RowStore, R: LineInput>(
     reader: &mut R,
     line: &mut Vec<u8>,
 ) -> Result<Next, NodeFault>
-    requires { replica.old.catalog ≡ catalog.now }
-    ensures { Replies S.RowStore result (R.failed reader.new) (ended (R.remaining reader.old)) (ended (R.remaining reader.new)) replica.old replica.new }
+    ensures { Replies S.RowStore catalog.now result (R.failed reader.new) (ended (R.remaining reader.old)) (ended (R.remaining reader.new)) replica.old replica.new }
 {
     match read_ended_line(reader, line) {
         Ok(LineRead::Whole) => match read_several(line.as_slice()) {

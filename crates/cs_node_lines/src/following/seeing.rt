@@ -31,8 +31,7 @@ fn tell_noting<S: RowStore>(
     answer: &Answer<'_>,
     wishes: &[Wish],
 ) -> (Result<Told, AnswerFault>, Note)
-    requires { replica.old.catalog ≡ catalog.now }
-    ensures turned { Turns S.RowStore (λ before after. HearsNoting replica.old.catalog before answer.now wishes.now result.0 result.1 after) replica.old replica.new }
+    ensures turned { Turns S.RowStore (λ before after. HearsNoting catalog.now before answer.now wishes.now result.0 result.1 after) replica.old replica.new }
     ensures counts { Counts S.RowStore (SaysDevice result.0) replica.old replica.new }
 {
     let mut picker = Noting::new(alloc, catalog, wishes);
@@ -79,8 +78,7 @@ pub fn seen_line<S: RowStore>(
     bytes: &[u8],
     wishes: &[Wish],
 ) -> Result<Reply, Memory>
-    requires { replica.old.catalog ≡ catalog.now }
-    ensures { Makes S.RowStore AskStep (line.Answer bytes.now wishes.now) result replica.old replica.new }
+    ensures { Makes S.RowStore (AskStep catalog.now) (line.Answer bytes.now wishes.now) result replica.old replica.new }
 {
     let answer = match Answer::decode(bytes) {
         Ok(answer) => answer,

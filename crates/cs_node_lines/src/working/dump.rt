@@ -1,6 +1,6 @@
 //! Where a replica stands, and its rows.
 
-ghost use Rattle.std.specs.Prelude.{◌≡◌, Err, IfOk, OnOk, Some, slice_get, string_bytes};
+ghost use Rattle.std.specs.Prelude.{◌≡◌, ◌<◌, Err, IfOk, OnOk, length, string_bytes};
 ghost use Rattle.cs_replica.specs.Leaves.{Counts};
 ghost use Rattle.cs_replica.specs.Step.{Member, Turns};
 ghost use Rattle.cs_node_lines.specs.working.LineStep.{IsDumped};
@@ -14,7 +14,7 @@ use crate::told::{PlaceText, ReplicaText, RowsText};
 use cs_pending::rows::RowAtKey;
 use cs_replica::Replica;
 use cs_store::{RowStore, StoreFault};
-use cs_value::{Catalog, Memory, TableDef, Text};
+use cs_value::{Memory, Text};
 use std::alloc::Global;
 
 /// The lines of rows of the table with this name.
@@ -61,20 +61,23 @@ pub fn place_of<S: RowStore>(alloc: Global, replica: &Replica<S>) -> Result<Stri
     )
 }
 
-/// Puts the lines of the rows of a table, which has this number, behind a text.
+/// Puts the lines of the rows of the table with this number behind a text.
 fn put_table<S: RowStore>(
     alloc: Global,
     replica: &mut Replica<S>,
-    def: &TableDef,
     table: usize,
     text: &mut String,
 ) -> Result<(), StoreFault>
-    requires { slice_get replica.old.catalog table ≡ Some def.now }
+    requires { table < length replica.old.catalog }
     ensures turned { Turns S.RowStore (λ (before : Member) (after : Member). (after ≡ before)
-        × OnOk result (PutsTable before.view.tables def.now.name (string_bytes text.old) (string_bytes text.new))) replica.old replica.new }
+        × OnOk result (PutsTable replica.old.catalog table before.view.tables (string_bytes text.old) (string_bytes text.new))) replica.old replica.new }
+    ensures catalog { replica.new.catalog ≡ replica.old.catalog }
     ensures counts { Counts S.RowStore (result ≡ Err stored.Device) replica.old replica.new }
 {
     let rows = replica.rows(alloc, table)?;
+    let Some(def) = replica.catalog().tables().get(table) else {
+        return Ok(());
+    };
     let lines = lines_of(alloc, &def.name, rows.as_slice())?;
     text.push_str(lines.as_str())?;
     Ok(())
@@ -84,20 +87,15 @@ fn put_table<S: RowStore>(
 fn put_tables<S: RowStore>(
     alloc: Global,
     replica: &mut Replica<S>,
-    catalog: &Catalog,
     text: &mut String,
 ) -> Result<(), StoreFault>
-    requires { replica.old.catalog ≡ catalog.now }
     ensures turned { Turns S.RowStore (λ (before : Member) (after : Member). (after ≡ before)
-        × OnOk result (PutsRows catalog.now before.view.tables (string_bytes text.old) (string_bytes text.new))) replica.old replica.new }
+        × OnOk result (PutsRows before.tables before.view.tables (string_bytes text.old) (string_bytes text.new))) replica.old replica.new }
     ensures counts { Counts S.RowStore (result ≡ Err stored.Device) replica.old replica.new }
 {
-    let tables = catalog.tables();
-    for table in 0..tables.len() {
-        let Some(def) = tables.get(table) else {
-            return Ok(());
-        };
-        match put_table(alloc, replica, def, table, text) {
+    let count = replica.catalog().tables().len();
+    for table in 0..count {
+        match put_table(alloc, replica, table, text) {
             Ok(()) => {}
             Err(fault) => return Err(fault),
         }
@@ -105,18 +103,16 @@ fn put_tables<S: RowStore>(
     Ok(())
 }
 
-/// Where a replica stands, and its rows: tables in the catalog's order, rows in the order of their keys' bytes.
+/// Where a replica stands, and its rows: its tables in their order, rows in the order of their keys' bytes.
 pub(crate) fn dump_of<S: RowStore>(
     alloc: Global,
     replica: &mut Replica<S>,
-    catalog: &Catalog,
 ) -> Result<String, StoreFault>
-    requires { replica.old.catalog ≡ catalog.now }
     ensures turned { Turns S.RowStore (λ (before : Member) (after : Member). (after ≡ before)
-        × IfOk result (λ text. IsDumped catalog.now before (string_bytes text))) replica.old replica.new }
+        × IfOk result (λ text. IsDumped before (string_bytes text))) replica.old replica.new }
     ensures counts { Counts S.RowStore (result ≡ Err stored.Device) replica.old replica.new }
 {
     let mut text = place_of(alloc, replica)?;
-    put_tables(alloc, replica, catalog, &mut text)?;
+    put_tables(alloc, replica, &mut text)?;
     Ok(text)
 }

@@ -19,4 +19,5 @@ pub fn one_line_run()
     ensures { OneLineRun }
 {
     one_line_step();
+    cs_widening::laws::widened_are_tables();
 }

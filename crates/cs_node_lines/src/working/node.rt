@@ -8,7 +8,7 @@ ghost use Rattle.cs_node_lines.specs.working.Steps.{Tells, TellsAll};
 use crate::asks::{Ask, read_asks};
 use crate::working::fault::NodeFault;
 use crate::working::reply::write_reply;
-use crate::working::working::work_ask;
+use crate::working::working::{in_order, work_ask};
 use cs_lines::{LineInput, LineOutput};
 use cs_replica::Replica;
 use cs_store::RowStore;
@@ -19,15 +19,13 @@ use std::alloc::Global;
 fn do_ask<S: RowStore, W: LineOutput>(
     alloc: Global,
     replica: &mut Replica<S>,
-    catalog: &Catalog,
     ask: &Ask,
     writer: &mut W,
 ) -> Result<(), NodeFault>
-    requires { replica.old.catalog ≡ catalog.now }
     ensures told { Tells S.RowStore LineStep ask.now result (W.failed writer.new) (W.contents writer.old) (W.contents writer.new) replica.old replica.new }
     ensures sent { OnOk result (W.sent writer.new) }
 {
-    let reply = work_ask(alloc, replica, catalog, ask)?;
+    let reply = work_ask(alloc, replica, ask)?;
     match write_reply(writer, &reply) {
         Ok(()) => Ok(()),
         Err(_) => Err(NodeFault::Write),
@@ -38,17 +36,16 @@ fn do_ask<S: RowStore, W: LineOutput>(
 fn do_asks<S: RowStore, W: LineOutput>(
     alloc: Global,
     replica: &mut Replica<S>,
-    catalog: &Catalog,
     asks: &[Ask],
     writer: &mut W,
 ) -> Result<(), NodeFault>
-    requires { replica.old.catalog ≡ catalog.now }
     ensures told { TellsAll S.RowStore LineStep asks.now result (W.failed writer.new) (W.contents writer.old) (W.contents writer.new) replica.old replica.new }
     ensures sent { OnOk result (W.sent writer.old → W.sent writer.new) }
 {
     let mut rest = asks;
     while let Some((ask, more)) = rest.split_first() {
-        match do_ask(alloc, replica, catalog, ask, writer) {
+        in_order(replica);
+        match do_ask(alloc, replica, ask, writer) {
             Ok(()) => rest = more,
             Err(fault) => return Err(fault),
         }
@@ -77,11 +74,11 @@ pub fn work_on<S: RowStore, W: LineOutput>(
         (W.failed writer.new) (W.contents writer.old) (W.contents writer.new) result.0 }
     ensures sent { OnOk result.0 (W.sent writer.old → W.sent writer.new) }
 {
-    let _tables = catalog.tables();
     match Replica::open(alloc, store, catalog, id) {
         Ok(mut replica) => {
             replica.shown();
-            let ended = do_asks(alloc, &mut replica, catalog, asks, writer);
+            in_order(&replica);
+            let ended = do_asks(alloc, &mut replica, asks, writer);
             (ended, replica.close())
         }
         Err((store, fault)) => (Err(NodeFault::from(fault)), store),

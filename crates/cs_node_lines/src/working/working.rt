@@ -7,6 +7,7 @@ ghost use Rattle.cs_replica.specs.Step.{Member};
 ghost use Rattle.cs_node_lines.specs.working.LineStep.{LineStep, SaysMemory};
 ghost use Rattle.cs_node_lines.specs.working.Replies.{reply_text};
 ghost use Rattle.cs_node_lines.specs.working.Texts.{heard_text};
+ghost use Rattle.cs_value.specs.Catalog.{AreTables};
 ghost use Rattle.cs_wire.specs.Requests.{HasShortBytes, asked_by_owned, request_spelling};
 ghost use Rattle.cs_node_lines.specs.working.Steps.{Makes, Stepped};
 
@@ -21,7 +22,7 @@ use cs_exchange::pulling::AnswerFault;
 use cs_exchange::pushing::PushFault;
 use cs_replica::{Replica, Told};
 use cs_store::RowStore;
-use cs_value::{Catalog, Edit, Memory};
+use cs_value::{Edit, Memory};
 use cs_wire::{Answer, RequestBuf};
 use std::alloc::Global;
 use std::fmt::Write;
@@ -50,6 +51,13 @@ fn asked(alloc: Global, request: &RequestBuf) -> Reply
     }
 }
 
+/// A replica's tables are a catalog's, whatever its store says.
+pub(crate) fn in_order<S: RowStore>(replica: &Replica<S>)
+    ensures { AreTables replica.now.catalog }
+{
+    let _tables = replica.catalog().tables();
+}
+
 fn edit_line<S: RowStore>(alloc: Global, replica: &mut Replica<S>, edit: &Edit) -> Reply
     ensures { Stepped S.RowStore LineStep (line.OnEdit edit.now) (reply_text result) replica.old replica.new }
 {
@@ -69,7 +77,7 @@ fn push_line<S: RowStore>(alloc: Global, replica: &mut Replica<S>) -> Result<Rep
 }
 
 fn resend_line<S: RowStore>(alloc: Global, replica: &Replica<S>) -> Reply
-    ensures { (had : ℕ) → (has : ℕ) → (before : Member) → before.position ≡ replica.now.position → LineStep replica.now.catalog had has before line.Resend (reply_text result) before }
+    ensures { (had : ℕ) → (has : ℕ) → (before : Member) → before.position ≡ replica.now.position → LineStep had has before line.Resend (reply_text result) before }
 {
     match replica.resend(alloc) {
         Ok(request) => asked(alloc, &request),
@@ -78,14 +86,14 @@ fn resend_line<S: RowStore>(alloc: Global, replica: &Replica<S>) -> Reply
 }
 
 fn pull_line<S: RowStore>(alloc: Global, replica: &Replica<S>, limit: u32) -> Reply
-    ensures { (had : ℕ) → (has : ℕ) → (before : Member) → before.position ≡ replica.now.position → LineStep replica.now.catalog had has before (line.Pull limit) (reply_text result) before }
+    ensures { (had : ℕ) → (has : ℕ) → (before : Member) → before.position ≡ replica.now.position → LineStep had has before (line.Pull limit) (reply_text result) before }
 {
     let first = replica.version();
     asked(alloc, &RequestBuf::Pull { first, limit })
 }
 
 fn catch_line<S: RowStore>(alloc: Global, replica: &Replica<S>, limit: u32) -> Reply
-    ensures { (had : ℕ) → (has : ℕ) → (before : Member) → before.position ≡ replica.now.position → LineStep replica.now.catalog had has before (line.Catch limit) (reply_text result) before }
+    ensures { (had : ℕ) → (has : ℕ) → (before : Member) → before.position ≡ replica.now.position → LineStep had has before (line.Catch limit) (reply_text result) before }
 {
     let request = RequestBuf::Catch {
         origin: replica.id(),
@@ -130,11 +138,10 @@ fn answer_line<S: RowStore>(
     Ok(Reply::Text(text))
 }
 
-fn dump_line<S: RowStore>(alloc: Global, replica: &mut Replica<S>, catalog: &Catalog) -> Reply
-    requires { replica.old.catalog ≡ catalog.now }
+fn dump_line<S: RowStore>(alloc: Global, replica: &mut Replica<S>) -> Reply
     ensures { Stepped S.RowStore LineStep line.Dump (reply_text result) replica.old replica.new }
 {
-    match dump_of(alloc, replica, catalog) {
+    match dump_of(alloc, replica) {
         Ok(text) => Reply::Text(text),
         Err(fault) => Reply::Refused(store_fault_name(fault)),
     }
@@ -144,10 +151,8 @@ fn dump_line<S: RowStore>(alloc: Global, replica: &mut Replica<S>, catalog: &Cat
 pub(crate) fn work_ask<S: RowStore>(
     alloc: Global,
     replica: &mut Replica<S>,
-    catalog: &Catalog,
     ask: &Ask,
 ) -> Result<Reply, Memory>
-    requires { replica.old.catalog ≡ catalog.now }
     ensures { Makes S.RowStore LineStep ask.now result replica.old replica.new }
 {
     match ask {
@@ -159,6 +164,6 @@ pub(crate) fn work_ask<S: RowStore>(
         Ask::Answer { bytes, wishes } => {
             answer_line(alloc, replica, bytes.as_slice(), wishes.as_slice())
         }
-        Ask::Dump => Ok(dump_line(alloc, replica, catalog)),
+        Ask::Dump => Ok(dump_line(alloc, replica)),
     }
 }

@@ -4,7 +4,7 @@ use Rattle.std.proofs.Math.Seq.{take-length}
 use Rattle.std.proofs.lemmas.List.{append-nil, take-append-le, take_more}
 use Rattle.std.proofs.Math.Seq.{take-length}
 use Rattle.std.proofs.lemmas.Option.{get_or_from_slice_get, slice_get_within}
-use Rattle.std.specs.Prelude.{All, IfErr, OnErr, OnOk}
+use Rattle.std.specs.Prelude.{IfErr, OnErr, OnOk}
 use Rattle.cs_value.specs.declared.catalog.TableDef.{TableDef}
 use Rattle.cs_store.specs.log.Log.{IsLog, catalog_at, catalog_of}
 use Rattle.cs_store.specs.log.Stored.{AreEntriesOf, IsEntryOf}
@@ -13,13 +13,15 @@ use Rattle.cs_store.specs.Contents.{Contents}
 use Rattle.cs_store.specs.declared.store.RowStore.{Ghosts}
 use Rattle.cs_pending.specs.Calls.{WritesStore}
 use Rattle.cs_hub.specs.log_store.Shows.{ShowsLog}
+use Rattle.cs_hub.specs.log_store.Versions.{ShowsBy, Versions}
+use Rattle.cs_store.specs.log.Widens.{widens_from}
 use Rattle.cs_hub.specs.appending.Appended.{IsAppendedIn}
 use Rattle.cs_nodes.specs.following.Standing.{Begins}
 use Rattle.cs_spine.specs.Known.{Known}
 use Rattle.cs_hub.specs.Follows.{FitsBehind, IsFollowFault}
 use Rattle.cs_hub.specs.declared.follow_fault.FollowFault.{FollowFault}
 use Rattle.cs_hub.specs.declared.follow_fault.FollowFault.TheVariants as follow
-use Rattle.cs_hub.specs.Holding.{Holding, Shows, ShowsSome}
+use Rattle.cs_hub.specs.Holding.{Holding, Shows, ShowsSome, versions_of}
 use Rattle.cs_hub.specs.Judges.{ReadsHub}
 use Rattle.cs_store.specs.declared.log.entry.TheConstants.{MAX_ENTRIES}
 use Rattle.cs_nodes.specs.books.Answers.{HasTaken, IsStuckAt}
@@ -56,11 +58,11 @@ pub behind_front : (tables : List TableDef) (log : List LogEntry) (at : ℕ) →
 behind_front tables log at = ap (catalog_of tables) (sym (take-length (take at log)))
 
 -- what is appended fits behind the log
-fits_behind : (tables : List TableDef) (log : List LogEntry) (entry : LogEntry) (old left : Contents) → ShowsLog tables old log → IsAppendedIn tables entry old left → FitsBehind tables log entry
-fits_behind tables log entry old left shows appended =
+fits_behind : (versions : Versions) (log : List LogEntry) (entry : LogEntry) (old left : Contents) → ShowsBy versions old log → IsAppendedIn versions entry old left → FitsBehind versions.opening log entry
+fits_behind versions log entry old left shows appended =
     let is = appended log shows in
     let front : take (length log) (log ++ entry ∷ []) ≡ take (length log) log = take-append-le (length log) log (entry ∷ []) (omega arith) in
-    (subst (λ (l : List LogEntry). IsEntryOf (catalog_of tables l) entry) front (is.1.fit (length log) entry (at_end log entry)), is.0)
+    (subst (λ (l : List LogEntry). IsEntryOf (catalog_of versions.opening l) entry) front (is.1.fit (length log) entry (at_end log entry)), is.0)
 
 -- ---- one step after another
 
@@ -166,9 +168,9 @@ module _ {S : Type 0} (g : Ghosts S) where
       }
 
   -- as its hub stays as it was
-  pub same_book : (book : BookState S) → IsBook g book → (hub : Holding S) → hub.catalog ≡ book.hub.catalog → hub.newest ≡ book.hub.newest → (g.honest hub.store → g.honest book.hub.store) → (g.honest hub.store → g.contents hub.store ≡ g.contents book.hub.store)
+  pub same_book : (book : BookState S) → IsBook g book → (hub : Holding S) → hub.catalog ≡ book.hub.catalog → hub.newest ≡ book.hub.newest → hub.widens ≡ book.hub.widens → (g.honest hub.store → g.honest book.hub.store) → (g.honest hub.store → g.contents hub.store ≡ g.contents book.hub.store)
       → IsBook g (record { row = book.row; hub = hub; pass = book.pass })
-  same_book book is hub catalog kept was_honest same = record {
+  same_book book is hub catalog kept wide was_honest same = record {
     of = is.of;
     few = is.few;
     within = (let within = is.within in omega (arith, kept, within));
@@ -179,6 +181,7 @@ module _ {S : Type 0} (g : Ghosts S) where
           subst (λ (l : List LogEntry). ShowsLog hub.catalog (g.contents hub.store) l) (sym log)
               (subst (λ (t : List TableDef). ShowsLog t (g.contents hub.store) front) (sym catalog) (subst (λ (c : Contents). ShowsLog book.hub.catalog c front) (sym (same h)) shows.0)),
           kept ∙ shows.1 ∙ ap length (sym log),
+          wide ∙ shows.2 ∙ ap (widens_from 0) (sym log),
         );
   }
 
@@ -214,11 +217,11 @@ module _ {S : Type 0} (g : Ghosts S) where
     Front = take book.hub.newest book.pass.known
 
     abbrev Writes : {F : Type 0} → F → Result (Unit {0}) F → Type 0
-    Writes device result = WritesStore g device (ShowsSome g.contents book.hub) (IsAppendedIn book.hub.catalog entry (g.contents book.hub.store)) book.hub.store hub.store result
+    Writes device result = WritesStore g device (ShowsSome g.contents book.hub) (IsAppendedIn (versions_of book.hub) entry (g.contents book.hub.store)) book.hub.store hub.store result
 
-    one_taken : g.honest book.hub.store → hub.newest ≡ book.hub.newest → (left : Contents) → IsAppendedIn book.hub.catalog entry (g.contents book.hub.store) left → OneMore After left
+    one_taken : g.honest book.hub.store → hub.newest ≡ book.hub.newest → (left : Contents) → IsAppendedIn (versions_of book.hub) entry (g.contents book.hub.store) left → OneMore After left
     one_taken h kept left appended =
-        let shows = (appended Front (is.shows h).0).1 in
+        let shows = (appended Front (is.shows h)).1 in
         let within = slice_get_within book.pass.known book.hub.newest entry here in (
           omega (arith, within, kept),
           subst (λ (n : ℕ). ShowsLog hub.catalog left (take (n + 1) book.pass.known)) (sym kept)
@@ -229,7 +232,7 @@ module _ {S : Type 0} (g : Ghosts S) where
     -- where it has finished, and yet nothing was taken, nothing is appended
     abbrev Ends : {F : Type 0} → Type 0 → Result (Unit {0}) F → Type 0
     Ends finished result =
-        g.honest hub.store → finished → OnErr result ((left : Contents) → IsAppendedIn book.hub.catalog entry (g.contents book.hub.store) left → ⊥)
+        g.honest hub.store → finished → OnErr result ((left : Contents) → IsAppendedIn (versions_of book.hub) entry (g.contents book.hub.store) left → ⊥)
 
     left_so : {F : Type 0} (device : F) (result : Result (Unit {0}) F) (finished : Type 0) → Writes device result → OnErr result (hub.newest ≡ book.hub.newest) → Ends finished result
         → g.honest hub.store → (left : Contents) → g.may_leave hub.store left → Left finished book After left
@@ -250,7 +253,7 @@ module _ {S : Type 0} (g : Ghosts S) where
       was_honest = writes.was_honest;
       crash = λ h left l. left_so device result finished writes kept ends h left l;
       later = writes.later;
-      as_read = λ h. writes.as_read h (Front, (is.shows (writes.was_honest h)).0, (is.shows (writes.was_honest h)).1);
+      as_read = λ h. writes.as_read h (Front, is.shows (writes.was_honest h));
     }
 
     -- it is a book again
@@ -282,16 +285,16 @@ module _ {S : Type 0} (g : Ghosts S) where
     ends_follow (Err follow.Device) refused was_honest h finished = absurd finished
     ends_follow (Err follow.Undefined) refused was_honest h finished = λ left appended.
         let shows = is.shows (was_honest h) in
-        refused h Front shows (fits_behind book.hub.catalog Front entry (g.contents book.hub.store) left shows.0 appended)
+        refused h Front shows (fits_behind (versions_of book.hub) Front entry (g.contents book.hub.store) left shows appended)
 
     pub ends_append : {F : Type 0} (result : Result (Unit {0}) F) → Ends (OnErr result ⊥) result
     ends_append (Ok t) h finished = tt
     ends_append (Err fault) h finished = absurd finished
 
-    pub book_again : {F : Type 0} (device : F) (result : Result (Unit {0}) F) → Writes device result → OnOk result (hub.newest ≡ book.hub.newest + 1) → OnErr result (hub.newest ≡ book.hub.newest)
+    pub book_again : {F : Type 0} (device : F) (result : Result (Unit {0}) F) → Writes device result → OnOk result (hub.newest ≡ book.hub.newest + 1) → OnErr result (hub.newest ≡ book.hub.newest) → OnErr result (hub.widens ≡ book.hub.widens)
         → (g.honest hub.store → (log : List LogEntry) → Shows g.contents book.hub log → OnOk result (Shows g.contents hub (log ++ entry ∷ []))) → IsBook g After
-    book_again device (Ok t) writes counted kept shows_more = taken_book counted writes.was_honest (λ h shows. shows_more h Front shows)
-    book_again device (Err fault) writes counted kept shows_more = same_book book is hub catalog kept writes.was_honest writes.err
+    book_again device (Ok t) writes counted kept wide shows_more = taken_book counted writes.was_honest (λ h shows. shows_more h Front shows)
+    book_again device (Err fault) writes counted kept wide shows_more = same_book book is hub catalog kept wide writes.was_honest writes.err
 
     -- what follows shows the longer log
     pub shown_of : {F : Type 0} (result : Result (Unit {0}) F) → (g.honest hub.store → (log : List LogEntry) → Shows g.contents book.hub log → OnOk result (FitsBehind book.hub.catalog log entry × Shows g.contents hub (log ++ entry ∷ [])))

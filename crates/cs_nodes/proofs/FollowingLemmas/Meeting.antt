@@ -3,7 +3,7 @@ use Rattle.std.proofs.Common.{◌≡◌, ◌≤◌, ℕ, List, [], take, length,
 use Rattle.std.proofs.lemmas.List.{take-take}
 use Rattle.cs_value.specs.declared.catalog.TableDef.{TableDef}
 use Rattle.cs_store.specs.log.Laws.{EmptyIsLog}
-use Rattle.cs_store.specs.log.Log.{IsLog, state_of}
+use Rattle.cs_store.specs.log.Log.{IsLog, catalog_of, state_of}
 use Rattle.cs_store.specs.declared.log.entry.LogEntry.{LogEntry}
 use Rattle.cs_pending.specs.View.{View}
 use Rattle.cs_pending.specs.declared.position.position.Position.{Position}
@@ -17,10 +17,15 @@ none_taken known = refl
 
 pub fresh_stands : EmptyIsLog → FirstStands → FreshStands
 fresh_stands empty first tables known position are version flight = record {
+  opening = tables;
   of_catalog = are;
-  front = subst (λ (l : List LogEntry). IsLog tables l) (sym (ap (λ (n : ℕ). take n known) version ∙ none_taken known)) (empty tables);
+  front = subst (λ (l : List LogEntry). IsLog tables l) (sym none) (empty tables);
+  catalog = ap (λ (l : List LogEntry). catalog_of tables l) (sym none);
   stands = first known position version flight;
 }
+  where
+    none : take position.version known ≡ []
+    none = ap (λ (n : ℕ). take n known) version ∙ none_taken known
 
 on_front : (tables : List TableDef) (known : List LogEntry) (both : ℕ) (position : Position) (view : View) → position.version ≤ both → StandsIn tables known position view → StandsOn (take both known) position view
 on_front tables known both position view less s = record {

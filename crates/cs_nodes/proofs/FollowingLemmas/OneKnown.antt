@@ -7,7 +7,7 @@ use Rattle.cs_value.specs.Catalog.{AreTables}
 use Rattle.cs_value.specs.declared.catalog.TableDef.{TableDef}
 use Rattle.cs_normal.specs.State.{IsDefinedOn, State}
 use Rattle.cs_store.specs.log.Entry.{entry_changes}
-use Rattle.cs_store.specs.log.Log.{entries_between}
+use Rattle.cs_store.specs.log.Log.{catalog_after, entries_between}
 use Rattle.cs_store.specs.declared.log.entry.LogEntry.{LogEntry}
 use Rattle.cs_store.specs.Contents.{Contents}
 use Rattle.cs_conflict.specs.declared.clash.Clash.{Clash}
@@ -23,6 +23,8 @@ use Rattle.cs_exchange.specs.declared.pulling.fault.PullFault.{PullFault}
 use Rattle.cs_exchange.specs.declared.pulling.fault.PullFault.TheVariants as pull
 use Rattle.cs_exchange.specs.taking.Laws.{OneContents, OneLogRows, PicksOnce}
 use Rattle.cs_exchange.specs.taking.Takes.{StopsAt, taken}
+use Rattle.cs_widening.specs.Laws.{WidenedAreTables}
+use Rattle.cs_nodes.proofs.FollowingLemmas.Stood.{next_tables}
 use Rattle.cs_nodes.specs.following.Laws.{AreNormal, IsOfEntries, OneKnownPull}
 use Rattle.cs_nodes.specs.following.Pulls.{EndsPull, IsTakeFault, PullsEach}
 use Rattle.cs_nodes.specs.declared.following.fault.NodeFault.{NodeFault}
@@ -36,6 +38,7 @@ pub record PullLaws {P : Type 0} (picks : P → Clash → Wish → P → Type 0)
   pub pull : OnePull picks
   pub fault : OnePullFault picks
   pub no_fault : NoPullFaultWherePulled picks
+  pub wide_tables : WidenedAreTables
 
 -- ---- the entries from one version to another
 
@@ -146,87 +149,102 @@ module _ {P : Type 0} (picks : P → Clash → Wish → P → Type 0) (laws : Pu
         let both = told.3 fault' r so (subst (λ (e : LogEntry). IsTakeFault picks tables fault' position e seen p r) same is') in
         (ap (λ (f : NodeFault). Err f) (both.0 both.1), both.1)
 
-  -- ---- one entry after another
+-- ---- one entry after another
 
-  -- both are at one position, and one store shows what each has come to
-  pub record AreJoined (here there : Position) (end last : View) (between among : P) : Type 0 where
-    pub positions : here ≡ there
-    pub asked : between ≡ among
-    pub store : Contents
-    pub one : ShowsAt tables store here end
-    pub two : ShowsAt tables store there last
+-- both are at one position by one catalog, and one store shows what each has come to
+pub record AreJoined {P : Type 0} (wide its : List TableDef) (here there : Position) (end last : View) (between among : P) : Type 0 where
+  pub tables : wide ≡ its
+  pub are : AreTables wide
+  pub positions : here ≡ there
+  pub asked : between ≡ among
+  pub store : Contents
+  pub one : ShowsAt wide store here end
+  pub two : ShowsAt its store there last
 
-  counted : (position : Position) (pending : ℕ) (left : Contents) (view : View) → ShowsAt tables left (taken position pending) view → ShowsAt tables left (taken position (len left.pending)) view
-  counted position pending left view shows = subst (λ (n : ℕ). ShowsAt tables left (taken position n) view) shows.counted shows
+counted : (tables : List TableDef) (position : Position) (pending : ℕ) (left : Contents) (view : View) → ShowsAt tables left (taken position pending) view → ShowsAt tables left (taken position (len left.pending)) view
+counted tables position pending left view shows = subst (λ (n : ℕ). ShowsAt tables left (taken position n) view) shows.counted shows
 
-  shown_there : (store : Contents) (position here : Position) (view end : View) → here ≡ position → end ≡ view → ShowsAt tables store position view → ShowsAt tables store here end
-  shown_there store position here view end is same shows =
-      subst (λ (x : Position). ShowsAt tables store x end) (sym is) (subst (λ (w : View). ShowsAt tables store position w) (sym same) shows)
+shown_there : (store : Contents) (tables others : List TableDef) (position here : Position) (view end : View) → others ≡ tables → here ≡ position → end ≡ view → ShowsAt tables store position view → ShowsAt others store here end
+shown_there store tables others position here view end wide is same shows =
+    subst (λ (ts : List TableDef). ShowsAt ts store here end) (sym wide)
+    (subst (λ (x : Position). ShowsAt tables store x end) (sym is) (subst (λ (w : View). ShowsAt tables store position w) (sym same) shows))
 
-  ends_at : (begun : Position) (result : Result ℕ NodeFault) (position here : Position) (view end : View) (p between q : P) → here ≡ position → end ≡ view → between ≡ p → EndsPull picks tables known begun result here end between q
+module _ {P : Type 0} (picks : P → Clash → Wish → P → Type 0) (known : List LogEntry) (begun : Position) where
+  ends_at : (result : Result ℕ NodeFault) (tables others : List TableDef) (position here : Position) (view end : View) (p between q : P) → others ≡ tables → here ≡ position → end ≡ view → between ≡ p → EndsPull picks others known begun result here end between q
       → EndsPull picks tables known begun result position view p q
-  ends_at begun result position here view end p between q is same asked ends =
-      subst (λ (x : Position). EndsPull picks tables known begun result x view p q) is
-      (subst (λ (w : View). EndsPull picks tables known begun result here w p q) same
-      (subst (λ (m : P). EndsPull picks tables known begun result here end m q) asked ends))
+  ends_at result tables others position here view end p between q wide is same asked ends =
+      subst (λ (ts : List TableDef). EndsPull picks ts known begun result position view p q) wide
+      (subst (λ (x : Position). EndsPull picks others known begun result x view p q) is
+      (subst (λ (w : View). EndsPull picks others known begun result here w p q) same
+      (subst (λ (m : P). EndsPull picks others known begun result here end m q) asked ends)))
 
-  module _ (begun : Position) (some other : Result ℕ NodeFault) (of : IsOfEntries some) (so : IsOfEntries other) (here there : Position) (end last : View) (between among q r : P)
-      (ends : EndsPull picks tables known begun some here end between q) (stays : EndsPull picks tables known begun other there last among r) where
-    joined : (es fs : List LogEntry) (position : Position) (store : Contents) (view seen : View) (p : P) → ShowsAt tables store position view → ShowsAt tables store position seen
-        → es ≡ entries_between known position.version here.version → fs ≡ entries_between known position.version there.version
-        → PullsEach picks tables es position view p here end between → PullsEach picks tables fs position seen p there last among
-        → AreJoined here there end last between among
-    unfolding PullsEach
-    joined [] [] position store view seen p v s is so' many others = record {
-      positions = many.0 ∙ sym others.0;
-      asked = many.2 ∙ sym others.2;
-      store = store;
-      one = shown_there store position here view end many.0 many.1 v;
-      two = shown_there store position there seen last others.0 others.1 s;
-    }
-    joined [] (f ∷ fs) position store view seen p v s is so' many (pending, left, next, middle, one, shows, rest) =
-        absurd (goes_on position store view seen v s begun some f next p q middle of (between_head known position.version there.version f fs so').0 one (ends_at begun some position here view end p between q many.0 many.1 many.2 ends))
-    joined (e ∷ es) [] position store view seen p v s is so' (pending, left, next, middle, one, shows, rest) others =
-        absurd (goes_on position store seen view s v begun other e next p r middle so (between_head known position.version here.version e es is).0 one (ends_at begun other position there seen last p among r others.0 others.1 others.2 stays))
-    joined (e ∷ es) (f ∷ fs) position store view seen p v s is so' (pending, left, next, middle, one, shows, rest) (pending', left', next', middle', one', shows', rest') =
-        let head = between_head known position.version here.version e es is in
-        let head' = between_head known position.version there.version f fs so' in
-        let same : f ≡ e = same_Some f e (sym head'.0 ∙ head.0) in
-        let two = subst (λ (x : LogEntry). PullsOne picks tables position x seen p next' middle') same one' in
-        let pulled = laws.pull tables store position e view seen next next' p middle middle' are (normal position.version e head.0) once v s one two in
-        let held = laws.contents tables (taken position 0) left left' next next' (counted position pending left next shows) (counted position pending' left' next' shows') pulled.0 pulled.1 in
-        let number_is : pending' ≡ pending = shows'.counted ∙ sym (ap (λ (c : Contents). len c.pending) held) ∙ sym shows.counted in
-        let seen_there = subst (λ (n : ℕ). ShowsAt tables left (taken position n) next') number_is (subst (λ (c : Contents). ShowsAt tables c (taken position pending') next') (sym held) shows') in
-        let onwards = subst (λ (n : ℕ). PullsEach picks tables fs (taken position n) next' middle there last among) number_is
-        (subst (λ (m : P). PullsEach picks tables fs (taken position pending') next' m there last among) (sym pulled.2) rest') in
-        joined es fs (taken position pending) left next next' middle shows seen_there head.1 head'.1 rest onwards
+module _ {P : Type 0} (picks : P → Clash → Wish → P → Type 0) (laws : PullLaws picks) (once : PicksOnce picks) (known : List LogEntry) (normal : AreNormal known) (begun : Position)
+    (some other : Result ℕ NodeFault) (of : IsOfEntries some) (so : IsOfEntries other) (wide its : List TableDef) (here there : Position) (end last : View) (between among q r : P)
+    (ends : EndsPull picks wide known begun some here end between q) (stays : EndsPull picks its known begun other there last among r) where
+  joined : (es fs : List LogEntry) (tables : List TableDef) → AreTables tables → (position : Position) (store : Contents) (view seen : View) (p : P) → ShowsAt tables store position view → ShowsAt tables store position seen
+      → es ≡ entries_between known position.version here.version → fs ≡ entries_between known position.version there.version
+      → PullsEach picks tables es position view p wide here end between → PullsEach picks tables fs position seen p its there last among
+      → AreJoined wide its here there end last between among
+  unfolding PullsEach
+  joined [] [] tables are position store view seen p v s is so' many others = record {
+    tables = many.0 ∙ sym others.0;
+    are = subst AreTables (sym many.0) are;
+    positions = many.1 ∙ sym others.1;
+    asked = many.3 ∙ sym others.3;
+    store = store;
+    one = shown_there store tables wide position here view end many.0 many.1 many.2 v;
+    two = shown_there store tables its position there seen last others.0 others.1 others.2 s;
+  }
+  joined [] (f ∷ fs) tables are position store view seen p v s is so' many (pending, left, next, middle, one, shows, rest) =
+      absurd (goes_on picks laws once tables are known normal position store view seen v s begun some f next p q middle of (between_head known position.version there.version f fs so').0 one
+      (ends_at picks known begun some tables wide position here view end p between q many.0 many.1 many.2 many.3 ends))
+  joined (e ∷ es) [] tables are position store view seen p v s is so' (pending, left, next, middle, one, shows, rest) others =
+      absurd (goes_on picks laws once tables are known normal position store seen view s v begun other e next p r middle so (between_head known position.version here.version e es is).0 one
+      (ends_at picks known begun other tables its position there seen last p among r others.0 others.1 others.2 others.3 stays))
+  joined (e ∷ es) (f ∷ fs) tables are position store view seen p v s is so' (pending, left, next, middle, one, shows, rest) (pending', left', next', middle', one', shows', rest') =
+      let head = between_head known position.version here.version e es is in
+      let head' = between_head known position.version there.version f fs so' in
+      let same : f ≡ e = same_Some f e (sym head'.0 ∙ head.0) in
+      let after = catalog_after tables e.body in
+      let are_after : AreTables after = next_tables laws.wide_tables picks tables position view next p middle are e one in
+      let two = subst (λ (x : LogEntry). PullsOne picks tables position x seen p next' middle') same one' in
+      let shows_so = subst (λ (x : LogEntry). ShowsAt (catalog_after tables x.body) left' (taken position pending') next') same shows' in
+      let rest_so = subst (λ (x : LogEntry). PullsEach picks (catalog_after tables x.body) fs (taken position pending') next' middle' its there last among) same rest' in
+      let pulled = laws.pull tables store position e view seen next next' p middle middle' are (normal position.version e head.0) once v s one two in
+      let held = laws.contents after (taken position 0) left left' next next' (counted after position pending left next shows) (counted after position pending' left' next' shows_so) pulled.0 pulled.1 in
+      let number_is : pending' ≡ pending = shows_so.counted ∙ sym (ap (λ (c : Contents). len c.pending) held) ∙ sym shows.counted in
+      let seen_there = subst (λ (n : ℕ). ShowsAt after left (taken position n) next') number_is (subst (λ (c : Contents). ShowsAt after c (taken position pending') next') (sym held) shows_so) in
+      let onwards = subst (λ (n : ℕ). PullsEach picks after fs (taken position n) next' middle its there last among) number_is
+      (subst (λ (m : P). PullsEach picks after fs (taken position pending') next' m its there last among) (sym pulled.2) rest_so) in
+      joined es fs after are_after (taken position pending) left next next' middle shows seen_there head.1 head'.1 rest onwards
 
-  counted_here : (position : Position) (left : Contents) (view : View) → ShowsAt tables left position view → ShowsAt tables left (record position { pending = len left.pending }) view
-  counted_here position left view shows = subst (λ (n : ℕ). ShowsAt tables left (record position { pending = n }) view) shows.counted shows
+counted_here : (tables : List TableDef) (position : Position) (left : Contents) (view : View) → ShowsAt tables left position view → ShowsAt tables left (record position { pending = len left.pending }) view
+counted_here tables position left view shows = subst (λ (n : ℕ). ShowsAt tables left (record position { pending = n }) view) shows.counted shows
 
-  module _ (begun : Position) (some other : Result ℕ NodeFault) (of : IsOfEntries some) (so : IsOfEntries other) (here there : Position) (end last : View) (between among q r : P) (new later : Contents) (shown : ShowsAt tables new here end)
-      (showed : ShowsAt tables later there last) (ends : EndsPull picks tables known begun some here end between q) (stays : EndsPull picks tables known begun other there last among r)
-      (j : AreJoined here there end last between among) where
-    two_here : ShowsAt tables j.store here last
-    two_here = subst (λ (x : Position). ShowsAt tables j.store x last) (sym j.positions) j.two
+module _ {P : Type 0} (picks : P → Clash → Wish → P → Type 0) (laws : PullLaws picks) (once : PicksOnce picks) (known : List LogEntry) (normal : AreNormal known) (begun : Position)
+    (some other : Result ℕ NodeFault) (of : IsOfEntries some) (so : IsOfEntries other) (wide its : List TableDef) (here there : Position) (end last : View) (between among q r : P) (new later : Contents)
+    (shown : ShowsAt wide new here end) (showed : ShowsAt its later there last) (ends : EndsPull picks wide known begun some here end between q) (stays : EndsPull picks its known begun other there last among r)
+    (j : AreJoined wide its here there end last between among) where
+  at_here : (store : Contents) → ShowsAt its store there last → ShowsAt wide store here last
+  at_here store shows =
+      subst (λ (ts : List TableDef). ShowsAt ts store here last) (sym j.tables) (subst (λ (x : Position). ShowsAt its store x last) (sym j.positions) shows)
 
-    stays_here : EndsPull picks tables known begun other here last between r
-    stays_here =
-        subst (λ (x : Position). EndsPull picks tables known begun other x last between r) (sym j.positions)
-        (subst (λ (m : P). EndsPull picks tables known begun other there last m r) (sym j.asked) stays)
+  stays_here : EndsPull picks wide known begun other here last between r
+  stays_here =
+      subst (λ (ts : List TableDef). EndsPull picks ts known begun other here last between r) (sym j.tables)
+      (subst (λ (x : Position). EndsPull picks its known begun other x last between r) (sym j.positions)
+      (subst (λ (m : P). EndsPull picks its known begun other there last m r) (sym j.asked) stays))
 
-    showed_here : ShowsAt tables later here last
-    showed_here = subst (λ (x : Position). ShowsAt tables later x last) (sym j.positions) showed
-
-    pub all_one : (some ≡ other) × (here ≡ there) × (new ≡ later) × (q ≡ r)
-    all_one =
-        let result = one_end here j.store end last j.one two_here begun some other between q r of so ends stays_here in
-        let views = laws.view tables j.store end last j.one.rows two_here.rows in
-        let held = laws.contents tables here new later end last (counted_here here new end shown) (counted_here here later last showed_here) views.0 views.1 in
-        (result.0, j.positions, held, result.1)
+  pub all_one : (some ≡ other) × (wide ≡ its) × (here ≡ there) × (new ≡ later) × (q ≡ r)
+  all_one =
+      let two_here = at_here j.store j.two in
+      let result = one_end picks laws once wide j.are known normal here j.store end last j.one two_here begun some other between q r of so ends stays_here in
+      let views = laws.view wide j.store end last j.one.rows two_here.rows in
+      let held = laws.contents wide here new later end last (counted_here wide here new end shown) (counted_here wide here later last (at_here later showed)) views.0 views.1 in
+      (result.0, j.tables, j.positions, held, result.1)
 
 pub one_known_pull : {P : Type 0} (picks : P → Clash → Wish → P → Type 0) → PullLaws picks → OneKnownPull picks
-one_known_pull picks laws tables known old new later position here there before some other p q r are normal once shows of so (end, between, pulled, shown, ends) (last, among, pulled', showed, stays) =
-    all_one picks laws once tables are known normal position some other of so here there end last between among q r new later shown showed ends stays
-    (joined picks laws once tables are known normal position some other of so here there end last between among q r ends stays
-    (entries_between known position.version here.version) (entries_between known position.version there.version) position old before before p shows shows refl refl pulled.pulls pulled'.pulls)
+one_known_pull picks laws tables wide its known old new later position here there before some other p q r are normal once shows of so (end, between, pulled, shown, ends) (last, among, pulled', showed, stays) =
+    all_one picks laws once known normal position some other of so wide its here there end last between among q r new later shown showed ends stays
+    (joined picks laws once known normal position some other of so wide its here there end last between among q r ends stays
+    (entries_between known position.version here.version) (entries_between known position.version there.version) tables are position old before before p shows shows refl refl pulled.pulls pulled'.pulls)

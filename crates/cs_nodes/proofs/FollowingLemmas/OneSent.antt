@@ -12,6 +12,7 @@ use Rattle.cs_value.specs.Catalog.{AreTables}
 use Rattle.cs_value.specs.declared.catalog.TableDef.{TableDef}
 use Rattle.cs_change.specs.Spelling.{change_spelling}
 use Rattle.cs_change.specs.declared.change.Change.{Change}
+use Rattle.cs_store.specs.log.Log.{catalog_after}
 use Rattle.cs_store.specs.declared.log.entry.LogEntry.{LogEntry}
 use Rattle.cs_store.specs.Contents.{Bodies, Contents, StorePlace, place_cmp}
 use Rattle.cs_conflict.specs.declared.clash.Clash.{Clash}
@@ -146,46 +147,44 @@ module _ {P : Type 0} (picks : P → Clash → Wish → P → Type 0) (laws : Pu
     rest_or_level : IsAtRest position ⊎ (position.version ≡ length known)
 
   -- it isn't offered, since no cell is left
-  record IsFilled (result : Result NodePush NodeFault) (other : Position) (new : Contents) : Type 0 where
+  record IsFilled (result : Result NodePush NodeFault) (others : List TableDef) (other : Position) (new : Contents) : Type 0 where
     told : result ≡ Err Full
     at_end : position.version ≡ length known
+    tabled : others ≡ tables
     view : View
     readied : IsReady tables position before other view
     shown_then : ShowsAt tables new other view
 
-  record IsStill (other : Position) (new : Contents) (q : P) : Type 0 where
-    learned_is : learned ≡ known
-    asked : q ≡ p
-
   -- the entry of the cell is taken
-  record IsDone (result : Result NodePush NodeFault) (other : Position) (new : Contents) (q : P) : Type 0 where
+  record IsDone (result : Result NodePush NodeFault) (others : List TableDef) (other : Position) (new : Contents) (q : P) : Type 0 where
     entry : LogEntry
     mine : LogEntry
-    sent : IsSent picks tables known position before p entry mine learned other new q
+    sent : IsSent picks tables known position before p entry mine learned others other new q
     told : ((result ≡ Ok (Accepted other.version)) × (mine ≡ entry)) ⊎ ((result ≡ Ok (Other other.version)) × (mine ≢ entry))
 
   -- or it isn't
-  record IsStuck (result : Result NodePush NodeFault) (other : Position) (new : Contents) (q : P) : Type 0 where
+  record IsStuck (result : Result NodePush NodeFault) (others : List TableDef) (other : Position) (new : Contents) (q : P) : Type 0 where
     fault : NodeFault
     told : result ≡ Err fault
     of : IsOfEntries (Err fault)
+    tabled : others ≡ tables
     view : View
     shown_then : ShowsAt tables new other view
     not_taken : IsNotTaken picks tables known position before p fault learned other view q
 
-  abbrev Stays : Position → Contents → P → Type 0
-  Stays other new q = (learned ≡ known) × (other ≡ position) × ShowsAt tables new position before × (q ≡ p)
+  abbrev Stays : List TableDef → Position → Contents → P → Type 0
+  Stays others other new q = (learned ≡ known) × (others ≡ tables) × (other ≡ position) × ShowsAt tables new position before × (q ≡ p)
 
-  abbrev Kind : Result NodePush NodeFault → Position → Contents → P → Type 0
-  Kind result other new q =
-      (Stays other new q × (IsLate result ⊎ IsUnmade result))
-      ⊎ (((learned ≡ known) × (q ≡ p) × IsFilled result other new) ⊎ (IsDone result other new q ⊎ IsStuck result other new q))
+  abbrev Kind : Result NodePush NodeFault → List TableDef → Position → Contents → P → Type 0
+  Kind result others other new q =
+      (Stays others other new q × (IsLate result ⊎ IsUnmade result))
+      ⊎ (((learned ≡ known) × (q ≡ p) × IsFilled result others other new) ⊎ (IsDone result others other new q ⊎ IsStuck result others other new q))
 
-  unmade_kind : (fault : PushFault) (told : NodeFault) (other : Position) (new : Contents) (q : P) (view : View) → told_of fault ≡ Err told → IsOfPush fault → position.flight ≡ None → ShowsAt tables new other view
-      → IsNotMade picks tables known position before p fault other view → learned ≡ known → q ≡ p → Kind (Err told) other new q
-  unmade_kind fault told other new q view is of none shown_then why same asked =
+  unmade_kind : (fault : PushFault) (told : NodeFault) (others : List TableDef) → others ≡ tables → (other : Position) (new : Contents) (q : P) (view : View) → told_of fault ≡ Err told → IsOfPush fault → position.flight ≡ None → ShowsAt tables new other view
+      → IsNotMade picks tables known position before p fault other view → learned ≡ known → q ≡ p → Kind (Err told) others other new q
+  unmade_kind fault told others tabled other new q view is of none shown_then why same asked =
       inl (
-        (same, why.position_is, subst (λ (x : Position). ShowsAt tables new x before) why.position_is (subst (λ (v : View). ShowsAt tables new other v) why.view_is shown_then), asked),
+        (same, tabled, why.position_is, subst (λ (x : Position). ShowsAt tables new x before) why.position_is (subst (λ (v : View). ShowsAt tables new other v) why.view_is shown_then), asked),
         inr (record {
           fault = fault;
           told = sym is;
@@ -196,29 +195,29 @@ module _ {P : Type 0} (picks : P → Clash → Wish → P → Type 0) (laws : Pu
         }),
       )
 
-  stuck_kind : (fault : NodeFault) (other : Position) (new : Contents) (q : P) (view : View) → IsOfEntries (Err fault) → ShowsAt tables new other view → IsNotTaken picks tables known position before p fault learned other view q → Kind (Err fault) other new q
-  stuck_kind fault other new q view of shown_then is = inr (inr (inr (record { fault = fault; told = refl; of = of; view = view; shown_then = shown_then; not_taken = is })))
+  stuck_kind : (fault : NodeFault) (others : List TableDef) → others ≡ tables → (other : Position) (new : Contents) (q : P) (view : View) → IsOfEntries (Err fault) → ShowsAt tables new other view → IsNotTaken picks tables known position before p fault learned other view q → Kind (Err fault) others other new q
+  stuck_kind fault others tabled other new q view of shown_then is = inr (inr (inr (record { fault = fault; told = refl; of = of; tabled = tabled; view = view; shown_then = shown_then; not_taken = is })))
 
-  failed_kind : (fault : NodeFault) (other : Position) (new : Contents) (q : P) (view : View) → IsOfOffer (Err fault) → ShowsAt tables new other view
+  failed_kind : (fault : NodeFault) (others : List TableDef) → others ≡ tables → (other : Position) (new : Contents) (q : P) (view : View) → IsOfOffer (Err fault) → ShowsAt tables new other view
       → (IsNotOffered picks tables known position before p cells fault other view × (learned ≡ known) × (q ≡ p)) ⊎ IsNotTaken picks tables known position before p fault learned other view q
-      → Kind (Err fault) other new q
-  failed_kind Memory other new q view of s is = absurd of
-  failed_kind Device other new q view of s is = absurd of
-  failed_kind Full other new q view of s (inl (is, same, asked)) = inr (inl (same, asked, record { told = refl; at_end = is.0; view = view; readied = is.2; shown_then = s }))
-  failed_kind Full other new q view of s (inr is) = absurd is.told
-  failed_kind Spent other new q view of s (inl (is, same, asked)) = unmade_kind push.Spent Spent other new q view refl (λ e. cc, λ e. cc) is.fault_is.1 s is same asked
-  failed_kind Spent other new q view of s (inr is) = absurd is.told
-  failed_kind TooLarge other new q view of s (inl (is, same, asked)) = unmade_kind push.TooLarge TooLarge other new q view refl (λ e. cc, λ e. cc) is.fault_is.1 s is same asked
-  failed_kind TooLarge other new q view of s (inr is) = absurd is.told
-  failed_kind BadEntry other new q view of s (inl is) = absurd is.0
-  failed_kind BadEntry other new q view of s (inr is) = stuck_kind BadEntry other new q view tt s is
-  failed_kind (Stopped conflict) other new q view of s (inl is) = absurd is.0
-  failed_kind (Stopped conflict) other new q view of s (inr is) = stuck_kind (Stopped conflict) other new q view tt s is
+      → Kind (Err fault) others other new q
+  failed_kind Memory others tabled other new q view of s is = absurd of
+  failed_kind Device others tabled other new q view of s is = absurd of
+  failed_kind Full others tabled other new q view of s (inl (is, same, asked)) = inr (inl (same, asked, record { told = refl; at_end = is.0; tabled = tabled; view = view; readied = is.2; shown_then = s }))
+  failed_kind Full others tabled other new q view of s (inr is) = absurd is.told
+  failed_kind Spent others tabled other new q view of s (inl (is, same, asked)) = unmade_kind push.Spent Spent others tabled other new q view refl (λ e. cc, λ e. cc) is.fault_is.1 s is same asked
+  failed_kind Spent others tabled other new q view of s (inr is) = absurd is.told
+  failed_kind TooLarge others tabled other new q view of s (inl (is, same, asked)) = unmade_kind push.TooLarge TooLarge others tabled other new q view refl (λ e. cc, λ e. cc) is.fault_is.1 s is same asked
+  failed_kind TooLarge others tabled other new q view of s (inr is) = absurd is.told
+  failed_kind BadEntry others tabled other new q view of s (inl is) = absurd is.0
+  failed_kind BadEntry others tabled other new q view of s (inr is) = stuck_kind BadEntry others tabled other new q view tt s is
+  failed_kind (Stopped conflict) others tabled other new q view of s (inl is) = absurd is.0
+  failed_kind (Stopped conflict) others tabled other new q view of s (inr is) = stuck_kind (Stopped conflict) others tabled other new q view tt s is
 
-  kind_of : (result : Result NodePush NodeFault) (other : Position) (new : Contents) (q : P) → IsOfOffer result → PushesOn picks tables known position before p cells result learned other new q → Kind result other new q
-  kind_of (Ok Nothing) other new q of (none, has, same, still, s, asked) =
+  kind_of : (result : Result NodePush NodeFault) (others : List TableDef) (other : Position) (new : Contents) (q : P) → IsOfOffer result → PushesOn picks tables known position before p cells result learned others other new q → Kind result others other new q
+  kind_of (Ok Nothing) others other new q of (none, has, same, tabled, still, s, asked) =
       inl (
-        (same, still, s, asked),
+        (same, tabled, still, s, asked),
         inr (record {
           fault = push.Nothing;
           told = refl;
@@ -228,12 +227,12 @@ module _ {P : Type 0} (picks : P → Clash → Wish → P → Type 0) (laws : Pu
           rest_or_level = inl (none, none_counted tables new position before s has);
         }),
       )
-  kind_of (Ok Behind) other new q of (busy, late, same, still, s, asked) = inl ((same, still, s, asked), inl (record { told = refl; busy = busy; behind_known = late }))
-  kind_of (Ok (Accepted version)) other new q of (is, (entry, sent)) =
+  kind_of (Ok Behind) others other new q of (busy, late, same, tabled, still, s, asked) = inl ((same, tabled, still, s, asked), inl (record { told = refl; busy = busy; behind_known = late }))
+  kind_of (Ok (Accepted version)) others other new q of (is, (entry, sent)) =
       inr (inr (inl (record { entry = entry; mine = entry; sent = sent; told = inl (ap (λ (n : ℕ). Ok (Accepted n)) is, refl) })))
-  kind_of (Ok (Other version)) other new q of (is, (entry, mine, not, sent)) =
+  kind_of (Ok (Other version)) others other new q of (is, (entry, mine, not, sent)) =
       inr (inr (inl (record { entry = entry; mine = mine; sent = sent; told = inr (ap (λ (n : ℕ). Ok (Other n)) is, not) })))
-  kind_of (Err fault) other new q of is = failed_kind fault other new q is.view of is.shows is.told
+  kind_of (Err fault) others other new q of is = failed_kind fault others is.catalog other new q is.view of is.shows is.told
 
   -- ---- none is of two kinds
 
@@ -245,8 +244,8 @@ module _ {P : Type 0} (picks : P → Clash → Wish → P → Type 0) (laws : Pu
   late_or_ended some l level = let late = l.behind_known in omega (arith, level, late)
 
   -- what is taken is not refused
-  done_or_stuck : (some other : Result NodePush NodeFault) (here there : Position) (new last : Contents) (q r : P) → IsDone some here new q → IsStuck other there last r → ⊥
-  done_or_stuck some other here there new last q r d s =
+  done_or_stuck : (some other : Result NodePush NodeFault) (wide its : List TableDef) (here there : Position) (new last : Contents) (q r : P) → IsDone some wide here new q → IsStuck other its there last r → ⊥
+  done_or_stuck some other wide its here there new last q r d s =
       let both = one_ready d.sent.ready there d.sent.view s.view d.sent.readied s.not_taken.readied in
       let same = one_held known learned d.entry s.not_taken.entry d.sent.holds s.not_taken.holds in
       let store = shown d.sent.ready d.sent.view d.sent.readied in
@@ -259,8 +258,8 @@ module _ {P : Type 0} (picks : P → Clash → Wish → P → Type 0) (laws : Pu
 
   -- ---- and each kind leaves one thing
 
-  abbrev One : (some other : Result NodePush NodeFault) (here there : Position) (new last : Contents) (q r : P) → Type 0
-  One some other here there new last q r = (some ≡ other) × (here ≡ there) × (new ≡ last) × (q ≡ r)
+  abbrev One : (some other : Result NodePush NodeFault) (wide its : List TableDef) (here there : Position) (new last : Contents) (q r : P) → Type 0
+  One some other wide its here there new last q r = (some ≡ other) × (wide ≡ its) × (here ≡ there) × (new ≡ last) × (q ≡ r)
 
   one_late : (some other : Result NodePush NodeFault) → (IsLate some ⊎ IsUnmade some) → (IsLate other ⊎ IsUnmade other) → some ≡ other
   one_late some other (inl l) (inl m) = l.told ∙ sym m.told
@@ -269,17 +268,17 @@ module _ {P : Type 0} (picks : P → Clash → Wish → P → Type 0) (laws : Pu
   one_late some other (inr u) (inr v) =
       u.told ∙ ap told_of (laws.fault tables position before u.fault v.fault u.of v.of u.is v.is) ∙ sym v.told
 
-  one_still : (some other : Result NodePush NodeFault) (here there : Position) (new last : Contents) (q r : P) → Stays here new q → Stays there last r → some ≡ other → One some other here there new last q r
-  one_still some other here there new last q r (same, is, s, asked) (same', is', s', asked') one =
-      (one, is ∙ sym is', one_store position position new last before before refl refl s s', asked ∙ sym asked')
+  one_still : (some other : Result NodePush NodeFault) (wide its : List TableDef) (here there : Position) (new last : Contents) (q r : P) → Stays wide here new q → Stays its there last r → some ≡ other → One some other wide its here there new last q r
+  one_still some other wide its here there new last q r (same, tabled, is, s, asked) (same', tabled', is', s', asked') one =
+      (one, tabled ∙ sym tabled', is ∙ sym is', one_store position position new last before before refl refl s s', asked ∙ sym asked')
 
-  one_filled : (some other : Result NodePush NodeFault) (here there : Position) (new last : Contents) (q r : P) → q ≡ p → r ≡ p → IsFilled some here new → IsFilled other there last → One some other here there new last q r
-  one_filled some other here there new last q r asked asked' f g =
+  one_filled : (some other : Result NodePush NodeFault) (wide its : List TableDef) (here there : Position) (new last : Contents) (q r : P) → q ≡ p → r ≡ p → IsFilled some wide here new → IsFilled other its there last → One some other wide its here there new last q r
+  one_filled some other wide its here there new last q r asked asked' f g =
       let both = one_ready here there f.view g.view f.readied g.readied in
-      (f.told ∙ sym g.told, sym both.0, one_store here there new last f.view g.view both.0 both.1 f.shown_then g.shown_then, asked ∙ sym asked')
+      (f.told ∙ sym g.told, f.tabled ∙ sym g.tabled, sym both.0, one_store here there new last f.view g.view both.0 both.1 f.shown_then g.shown_then, asked ∙ sym asked')
 
-  one_stuck : (some other : Result NodePush NodeFault) (here there : Position) (new last : Contents) (q r : P) → IsStuck some here new q → IsStuck other there last r → One some other here there new last q r
-  one_stuck some other here there new last q r s t =
+  one_stuck : (some other : Result NodePush NodeFault) (wide its : List TableDef) (here there : Position) (new last : Contents) (q r : P) → IsStuck some wide here new q → IsStuck other its there last r → One some other wide its here there new last q r
+  one_stuck some other wide its here there new last q r s t =
       let both = one_ready here there s.view t.view s.not_taken.readied t.not_taken.readied in
       let same = one_held known learned s.not_taken.entry t.not_taken.entry s.not_taken.holds t.not_taken.holds in
       let entry = s.not_taken.entry in
@@ -290,6 +289,7 @@ module _ {P : Type 0} (picks : P → Clash → Wish → P → Type 0) (laws : Pu
       let fault = as_pull_fault picks laws.pulls once tables are learned normal here new s.view s.view s.shown_then s.shown_then s.fault entry p q s.of s.not_taken.told in
       let also = fault.3 t.fault r t.of told in (
         s.told ∙ ap (λ (f : NodeFault). Err f) (also.0 also.1) ∙ sym t.told,
+        s.tabled ∙ sym t.tabled,
         sym both.0,
         one_store here there new last s.view t.view both.0 both.1 s.shown_then t.shown_then,
         also.1,
@@ -303,8 +303,8 @@ module _ {P : Type 0} (picks : P → Clash → Wish → P → Type 0) (laws : Pu
   one_told some other here there entry mine its at same (inr (is, m)) (inl (is', m')) = absurd (m (sym same ∙ m'))
   one_told some other here there entry mine its at same (inr (is, m)) (inr (is', m')) = is ∙ ap (λ (n : ℕ). Ok (Other n)) at ∙ sym is'
 
-  one_done : (some other : Result NodePush NodeFault) (here there : Position) (new last : Contents) (q r : P) → IsDone some here new q → IsDone other there last r → One some other here there new last q r
-  one_done some other here there new last q r d e =
+  one_done : (some other : Result NodePush NodeFault) (wide its : List TableDef) (here there : Position) (new last : Contents) (q r : P) → IsDone some wide here new q → IsDone other its there last r → One some other wide its here there new last q r
+  one_done some other wide its here there new last q r d e =
       let ready = d.sent.ready in
       let view = d.sent.view in
       let entry = d.entry in
@@ -319,38 +319,41 @@ module _ {P : Type 0} (picks : P → Clash → Wish → P → Type 0) (laws : Pu
       let pulled = laws.pulls.pull tables store.0 ready entry view view d.sent.after e.sent.after p q r are (normal (length known) entry here_in) once store.1 store.1 d.sent.pulls pulls in
       let here_is : here ≡ taken ready (len new.pending) = d.sent.version ∙ ap (taken ready) d.sent.shows.counted in
       let there_is : there ≡ taken ready (len last.pending) = e.sent.version ∙ ap (λ (x : Position). taken x there.pending) both.0 ∙ ap (taken ready) e.sent.shows.counted in
-      let held = laws.pulls.contents tables (taken ready 0) new last d.sent.after e.sent.after (subst (λ (x : Position). ShowsAt tables new x d.sent.after) here_is d.sent.shows)
-      (subst (λ (x : Position). ShowsAt tables last x e.sent.after) there_is e.sent.shows) pulled.0 pulled.1 in
+      let after = catalog_after tables entry.body in
+      let its_is : its ≡ after = e.sent.catalog ∙ ap (λ (x : LogEntry). catalog_after tables x.body) same in
+      let held = laws.pulls.contents after (taken ready 0) new last d.sent.after e.sent.after
+      (subst (λ (ts : List TableDef). ShowsAt ts new (taken ready (len new.pending)) d.sent.after) d.sent.catalog (subst (λ (x : Position). ShowsAt wide new x d.sent.after) here_is d.sent.shows))
+      (subst (λ (ts : List TableDef). ShowsAt ts last (taken ready (len last.pending)) e.sent.after) its_is (subst (λ (x : Position). ShowsAt its last x e.sent.after) there_is e.sent.shows)) pulled.0 pulled.1 in
       let at : here ≡ there = here_is ∙ ap (λ (c : Contents). taken ready (len c.pending)) held ∙ sym there_is in
       let mine : e.mine ≡ d.mine = same_Some e.mine d.mine (sym e.sent.flight ∙ ap (λ (x : Position). flight_entry x) both.0 ∙ d.sent.flight) in
       let told : ((other ≡ Ok (Accepted there.version)) × (e.mine ≡ entry)) ⊎ ((other ≡ Ok (Other there.version)) × (e.mine ≢ entry)) =
       subst (λ (x : LogEntry). ((other ≡ Ok (Accepted there.version)) × (e.mine ≡ x)) ⊎ ((other ≡ Ok (Other there.version)) × (e.mine ≢ x))) same e.told in
-      (one_told some other here.version there.version entry d.mine e.mine (ap (λ (x : Position). x.version) at) mine d.told told, at, held, pulled.2)
+      (one_told some other here.version there.version entry d.mine e.mine (ap (λ (x : Position). x.version) at) mine d.told told, d.sent.catalog ∙ sym its_is, at, held, pulled.2)
 
   -- ---- so there is one
 
-  one_kind : (some other : Result NodePush NodeFault) (here there : Position) (new last : Contents) (q r : P) → Kind some here new q → Kind other there last r → One some other here there new last q r
-  one_kind some other here there new last q r (inl (still, why)) (inl (still', why')) = one_still some other here there new last q r still still' (one_late some other why why')
-  one_kind some other here there new last q r (inl (still, inl l)) (inr (inl (same, asked, f))) = absurd (late_or_ended some l f.at_end)
-  one_kind some other here there new last q r (inl (still, inr u)) (inr (inl (same, asked, f))) = absurd (no_fault there f.view u.fault u.none u.of u.is f.readied)
-  one_kind some other here there new last q r (inl (still, why)) (inr (inr (inl d))) = absurd (longer known learned d.entry still.0 d.sent.holds)
-  one_kind some other here there new last q r (inl (still, why)) (inr (inr (inr s))) = absurd (longer known learned s.not_taken.entry still.0 s.not_taken.holds)
-  one_kind some other here there new last q r (inr (inl (same, asked, f))) (inl (still, inl l)) = absurd (late_or_ended other l f.at_end)
-  one_kind some other here there new last q r (inr (inl (same, asked, f))) (inl (still, inr u)) = absurd (no_fault here f.view u.fault u.none u.of u.is f.readied)
-  one_kind some other here there new last q r (inr (inl (same, asked, f))) (inr (inl (same', asked', g))) = one_filled some other here there new last q r asked asked' f g
-  one_kind some other here there new last q r (inr (inl (same, asked, f))) (inr (inr (inl d))) = absurd (longer known learned d.entry same d.sent.holds)
-  one_kind some other here there new last q r (inr (inl (same, asked, f))) (inr (inr (inr s))) = absurd (longer known learned s.not_taken.entry same s.not_taken.holds)
-  one_kind some other here there new last q r (inr (inr (inl d))) (inl (still, why)) = absurd (longer known learned d.entry still.0 d.sent.holds)
-  one_kind some other here there new last q r (inr (inr (inl d))) (inr (inl (same, asked, f))) = absurd (longer known learned d.entry same d.sent.holds)
-  one_kind some other here there new last q r (inr (inr (inl d))) (inr (inr (inl e))) = one_done some other here there new last q r d e
-  one_kind some other here there new last q r (inr (inr (inl d))) (inr (inr (inr s))) = absurd (done_or_stuck some other here there new last q r d s)
-  one_kind some other here there new last q r (inr (inr (inr s))) (inl (still, why)) = absurd (longer known learned s.not_taken.entry still.0 s.not_taken.holds)
-  one_kind some other here there new last q r (inr (inr (inr s))) (inr (inl (same, asked, f))) = absurd (longer known learned s.not_taken.entry same s.not_taken.holds)
-  one_kind some other here there new last q r (inr (inr (inr s))) (inr (inr (inl d))) = absurd (done_or_stuck other some there here last new r q d s)
-  one_kind some other here there new last q r (inr (inr (inr s))) (inr (inr (inr t))) = one_stuck some other here there new last q r s t
+  one_kind : (some other : Result NodePush NodeFault) (wide its : List TableDef) (here there : Position) (new last : Contents) (q r : P) → Kind some wide here new q → Kind other its there last r → One some other wide its here there new last q r
+  one_kind some other wide its here there new last q r (inl (still, why)) (inl (still', why')) = one_still some other wide its here there new last q r still still' (one_late some other why why')
+  one_kind some other wide its here there new last q r (inl (still, inl l)) (inr (inl (same, asked, f))) = absurd (late_or_ended some l f.at_end)
+  one_kind some other wide its here there new last q r (inl (still, inr u)) (inr (inl (same, asked, f))) = absurd (no_fault there f.view u.fault u.none u.of u.is f.readied)
+  one_kind some other wide its here there new last q r (inl (still, why)) (inr (inr (inl d))) = absurd (longer known learned d.entry still.0 d.sent.holds)
+  one_kind some other wide its here there new last q r (inl (still, why)) (inr (inr (inr s))) = absurd (longer known learned s.not_taken.entry still.0 s.not_taken.holds)
+  one_kind some other wide its here there new last q r (inr (inl (same, asked, f))) (inl (still, inl l)) = absurd (late_or_ended other l f.at_end)
+  one_kind some other wide its here there new last q r (inr (inl (same, asked, f))) (inl (still, inr u)) = absurd (no_fault here f.view u.fault u.none u.of u.is f.readied)
+  one_kind some other wide its here there new last q r (inr (inl (same, asked, f))) (inr (inl (same', asked', g))) = one_filled some other wide its here there new last q r asked asked' f g
+  one_kind some other wide its here there new last q r (inr (inl (same, asked, f))) (inr (inr (inl d))) = absurd (longer known learned d.entry same d.sent.holds)
+  one_kind some other wide its here there new last q r (inr (inl (same, asked, f))) (inr (inr (inr s))) = absurd (longer known learned s.not_taken.entry same s.not_taken.holds)
+  one_kind some other wide its here there new last q r (inr (inr (inl d))) (inl (still, why)) = absurd (longer known learned d.entry still.0 d.sent.holds)
+  one_kind some other wide its here there new last q r (inr (inr (inl d))) (inr (inl (same, asked, f))) = absurd (longer known learned d.entry same d.sent.holds)
+  one_kind some other wide its here there new last q r (inr (inr (inl d))) (inr (inr (inl e))) = one_done some other wide its here there new last q r d e
+  one_kind some other wide its here there new last q r (inr (inr (inl d))) (inr (inr (inr s))) = absurd (done_or_stuck some other wide its here there new last q r d s)
+  one_kind some other wide its here there new last q r (inr (inr (inr s))) (inl (still, why)) = absurd (longer known learned s.not_taken.entry still.0 s.not_taken.holds)
+  one_kind some other wide its here there new last q r (inr (inr (inr s))) (inr (inl (same, asked, f))) = absurd (longer known learned s.not_taken.entry same s.not_taken.holds)
+  one_kind some other wide its here there new last q r (inr (inr (inr s))) (inr (inr (inl d))) = absurd (done_or_stuck other some its wide there here last new r q d s)
+  one_kind some other wide its here there new last q r (inr (inr (inr s))) (inr (inr (inr t))) = one_stuck some other wide its here there new last q r s t
 
 pub one_known_push : {P : Type 0} (picks : P → Clash → Wish → P → Type 0) → PushLaws picks → OneKnownPush picks
-one_known_push picks laws tables known learned cells old new last position here there before some other p q r are normal once shows of so is are' =
-    one_kind picks laws once tables are known learned normal position before old shows cells p some other here there new last q r
-    (kind_of picks laws once tables are known learned normal position before old shows cells p some here new q of is)
-    (kind_of picks laws once tables are known learned normal position before old shows cells p other there last r so are')
+one_known_push picks laws tables wide its known learned cells old new last position here there before some other p q r are normal once shows of so is are' =
+    one_kind picks laws once tables are known learned normal position before old shows cells p some other wide its here there new last q r
+    (kind_of picks laws once tables are known learned normal position before old shows cells p some wide here new q of is)
+    (kind_of picks laws once tables are known learned normal position before old shows cells p other its there last r so are')

@@ -1,5 +1,5 @@
 -- A push that is made ready.
-use Rattle.std.proofs.Common.{◌≡◌, ◌+◌, ◌++◌, ◌∷◌, ℕ, true, List, Option, Ok, Err, refl, sym, ap, subst, ◌∙◌, inr}
+use Rattle.std.proofs.Common.{◌≡◌, ◌+◌, ◌++◌, ◌∷◌, ℕ, true, List, Option, Some, None, IsSome, is_some, Ok, Err, refl, sym, ap, subst, ◌∙◌, inl, inr}
 use Rattle.std.proofs.lemmas.List.{append_cancel_left}
 use Rattle.std.proofs.lemmas.Option.{same_Some}
 use Rattle.cs_value.specs.Catalog.{AreTables}
@@ -10,6 +10,7 @@ use Rattle.cs_normal.specs.declared.normal.TableChanges.{TableChanges}
 use Rattle.cs_store.specs.log.Entry.{changes_of_body}
 use Rattle.cs_store.specs.log.Laws.{OneBody}
 use Rattle.cs_store.specs.declared.log.body.Body.TheVariants.{Changes}
+use Rattle.cs_store.specs.declared.log.entry.LogEntry.{LogEntry}
 use Rattle.cs_store.specs.Contents.{Contents}
 use Rattle.cs_store.specs.declared.names.MetaName.TheVariants.{Flight}
 use Rattle.cs_pending.specs.View.{View}
@@ -18,9 +19,10 @@ use Rattle.cs_pending.specs.declared.position.position.Position.{Position}
 use Rattle.cs_exchange.specs.declared.pushing.fault.PushFault.{PushFault}
 use Rattle.cs_exchange.specs.declared.pushing.fault.PushFault.TheVariants as push
 use Rattle.cs_exchange.specs.pushing.Pushes.{IsPushMade, IsPushMadeIn, grounded, pushed}
+use Rattle.cs_replica.specs.Flight.{entry_under_way, flight_entry}
 use Rattle.cs_wire.specs.Numbers.{eight_bytes}
 use Rattle.cs_nodes.specs.following.Faults.{told_of_push}
-use Rattle.cs_nodes.specs.following.Pushes.{IsReadied}
+use Rattle.cs_nodes.specs.following.Pushes.{IsReadied, IsReady}
 use Rattle.cs_nodes.specs.declared.following.fault.NodeFault.TheVariants.{Device}
 
 behind_same : (front a b : List ℕ) → front ++ a ≡ front ++ b → a ≡ b
@@ -74,3 +76,17 @@ device_made push.InFlight is = absurd (let no = is in cc)
 device_made push.Device is = refl
 device_made push.Spent is = absurd (let no = is in cc)
 device_made push.TooLarge is = absurd (let no = is in cc)
+
+-- ---- one is under way then
+
+pub ready_flies : (tables : List TableDef) (position : Position) (before : View) (ready : Position) (view : View) → IsReady tables position before ready view → IsSome ready.flight
+ready_flies tables position before ready view (inl (some, is, same)) = ap (λ (x : Position). is_some x.flight) is ∙ some
+ready_flies tables position before ready view (inr (left, changes, made, is, same)) = ap (λ (x : Position). is_some x.flight) is
+
+-- as an entry
+pub flies_as : (position : Position) → IsSome position.flight → (entry : LogEntry) × (flight_entry position ≡ Some entry)
+flies_as position some = under_way position.flight some
+  where
+    under_way : (flight : Option (List TableChanges)) → IsSome flight → (entry : LogEntry) × (entry_under_way position.id position.number flight ≡ Some entry)
+    under_way None some = absurd cc
+    under_way (Some changes) some = (record { origin = position.id; number = position.number; body = Changes changes }, refl)

@@ -9,7 +9,7 @@ use Rattle.cs_change.specs.Spelling.{change_spelling}
 use Rattle.cs_change.specs.declared.change.Change.{Change}
 use Rattle.cs_normal.specs.State.{IsDefinedOn}
 use Rattle.cs_store.specs.log.Entry.{entry_changes}
-use Rattle.cs_store.specs.log.Log.{tables_at}
+use Rattle.cs_store.specs.log.Log.{catalog_after, tables_at}
 use Rattle.cs_store.specs.declared.log.entry.LogEntry.{LogEntry}
 use Rattle.cs_store.specs.Contents.{Bodies, Contents, place_cmp, stored_pending}
 use Rattle.cs_conflict.specs.declared.clash.Clash.{Clash}
@@ -25,7 +25,8 @@ use Rattle.cs_nodes.specs.following.Pulls.{IsNextKnown, IsTakeFault}
 use Rattle.cs_nodes.specs.following.Pushes.{IsNotOffered, IsReadied, IsReadyFault, IsSent, IsSentAmong, IsSentNext, PushesOn}
 use Rattle.cs_nodes.specs.declared.following.fault.NodeFault.{NodeFault}
 use Rattle.cs_nodes.specs.declared.following.fault.NodeFault.TheVariants.{BadEntry, Device, Full, Memory, Spent, Stopped, TooLarge}
-use Rattle.cs_nodes.specs.declared.following.pushed.NodePush.TheVariants.{Accepted, Other}
+use Rattle.cs_nodes.specs.declared.following.pushed.NodePush.TheVariants.{Nothing, Accepted, Other}
+use Rattle.cs_nodes.proofs.FollowingLemmas.Readied.{flies_as, ready_flies}
 
 -- the entry behind a list
 pub behind : (known : List LogEntry) (held : LogEntry) → slice_get (known ++ held ∷ []) (length known) ≡ Some held
@@ -38,30 +39,40 @@ held_is known all held entry is at =
 
 module _ {P : Type 0} (picks : P → Clash → Wish → P → Type 0) (tables : List TableDef) (known : List LogEntry) (position : Position) (before : View) (p : P) where
   -- a push was made, and not offered
-  pub memory_sent : (cells : ℕ) (other : Position) (new : Contents) (learned : List LogEntry) → IsReadied tables position before true other new → learned ≡ known
-      → PushesOn picks tables known position before p cells (Err Memory) learned other new p
-  memory_sent cells other new learned (view, shows, ready) same = record {
+  pub memory_sent : (cells : ℕ) (others : List TableDef) → others ≡ tables → (other : Position) (new : Contents) (learned : List LogEntry) → IsReadied tables position before true other new → learned ≡ known
+      → PushesOn picks tables known position before p cells (Err Memory) learned others other new p
+  memory_sent cells others tabled other new learned (view, shows, ready) same = record {
     view = view;
     held = inr ready;
+    catalog = tabled;
     shows = shows;
     told = inl (tt, same, refl);
   }
 
-  pub full_sent : (cells : ℕ) (other : Position) (new : Contents) (learned : List LogEntry) → IsReadied tables position before true other new → position.version ≡ length known → length known ≡ cells → learned ≡ known
-      → PushesOn picks tables known position before p cells (Err Full) learned other new p
-  full_sent cells other new learned (view, shows, ready) at_end full same = record {
+  pub full_sent : (cells : ℕ) (others : List TableDef) → others ≡ tables → (other : Position) (new : Contents) (learned : List LogEntry) → IsReadied tables position before true other new → position.version ≡ length known → length known ≡ cells → learned ≡ known
+      → PushesOn picks tables known position before p cells (Err Full) learned others other new p
+  full_sent cells others tabled other new learned (view, shows, ready) at_end full same = record {
     view = view;
     held = inr ready;
+    catalog = tabled;
     shows = shows;
     told = inl ((at_end, full, ready), same, refl);
   }
 
+  -- one that is ready is under way, so that it is found
+  pub never_none : (cells : ℕ) (others : List TableDef) (other : Position) (new : Contents) (learned : List LogEntry) → IsReadied tables position before true other new
+      → (found : Option LogEntry) → found ≡ flight_entry other → ((mine : LogEntry) → found ≡ Some mine → ⊥) → PushesOn picks tables known position before p cells (Ok Nothing) learned others other new p
+  never_none cells others other new learned (view, shows, ready) found is none =
+      let f = flies_as other (ready_flies tables position before other view ready) in
+      absurd (none f.0 (is ∙ f.1))
+
   -- none was made
-  pub not_made : (cells : ℕ) (fault : NodeFault) (other : Position) (new : Contents) → position.version ≡ length known → other ≡ position → IsReadyFault fault tables position before → ShowsAt tables new other before
-      → PushesOn picks tables known position before p cells (Err fault) known other new p
-  not_made cells fault other new at_end same is shows = record {
+  pub not_made : (cells : ℕ) (fault : NodeFault) (others : List TableDef) → others ≡ tables → (other : Position) (new : Contents) → position.version ≡ length known → other ≡ position → IsReadyFault fault tables position before → ShowsAt tables new other before
+      → PushesOn picks tables known position before p cells (Err fault) known others other new p
+  not_made cells fault others tabled other new at_end same is shows = record {
     view = before;
     held = inl (same, refl);
+    catalog = tabled;
     shows = shows;
     told = inl (why fault is, refl, refl);
   }
@@ -81,22 +92,23 @@ module _ {P : Type 0} (picks : P → Clash → Wish → P → Type 0) (tables : 
     it_holds = holds ∙ ap (λ (e : LogEntry). known ++ e ∷ []) (sym (held_is known learned held entry holds at))
 
     -- what the cell holds was not taken
-    pub stopped_sent : (fault : NodeFault) (other : Position) (new : Contents) → new ≡ mid → other ≡ ready
+    pub stopped_sent : (fault : NodeFault) (others : List TableDef) → others ≡ tables → (other : Position) (new : Contents) → new ≡ mid → other ≡ ready
         → ((view : View) → ShowsAt tables mid ready view → IsTakeFault picks tables fault ready entry view p q)
-        → PushesOn picks tables known position before p cells (Err fault) learned other new q
-    stopped_sent fault other new same kept told =
-        subst (λ (x : Position). PushesOn picks tables known position before p cells (Err fault) learned x new q) (sym kept) (record {
+        → PushesOn picks tables known position before p cells (Err fault) learned others other new q
+    stopped_sent fault others tabled other new same kept told =
+        subst (λ (x : Position). PushesOn picks tables known position before p cells (Err fault) learned others x new q) (sym kept) (record {
           view = readied.0;
           held = inr readied.2;
+          catalog = tabled;
           shows = subst (λ (c : Contents). ShowsAt tables c ready readied.0) (sym same) readied.1;
           told = inr (record { at_end = at_end; readied = readied.2; entry = entry; holds = it_holds; told = told readied.0 readied.1 });
         })
 
     -- it was
-    module _ (other : Position) (new : Contents) (mine : LogEntry) (flight : flight_entry ready ≡ Some mine)
+    module _ (others : List TableDef) (wide : others ≡ catalog_after tables entry.body) (other : Position) (new : Contents) (mine : LogEntry) (flight : flight_entry ready ≡ Some mine)
         (defined : IsDefinedOn tables (entry_changes mine) (tables_at known position.version))
         (pulled : IsPulledIn picks tables ready entry p q mid new) (moved : other ≡ taken ready other.pending) (counted : other.pending ≡ len new.pending) where
-      is_sent : IsSent picks tables known position before p entry mine learned other new q
+      is_sent : IsSent picks tables known position before p entry mine learned others other new q
       is_sent =
           let after = pulled readied.0 readied.1 in
           record {
@@ -109,16 +121,18 @@ module _ {P : Type 0} (picks : P → Clash → Wish → P → Type 0) (tables : 
             holds = it_holds;
             after = after.0;
             pulls = after.2;
+            catalog = wide;
             version = moved;
-            shows = subst (λ (x : Position). ShowsAt tables new x after.0) (sym (moved ∙ ap (taken ready) counted)) after.1;
+            shows = subst (λ (t : List TableDef). ShowsAt t new other after.0) (sym wide)
+                (subst (λ (x : Position). ShowsAt (catalog_after tables entry.body) new x after.0) (sym (moved ∙ ap (taken ready) counted)) after.1);
           }
 
-      pub mine_sent : held ≡ mine → PushesOn picks tables known position before p cells (Ok (Accepted other.version)) learned other new q
+      pub mine_sent : held ≡ mine → PushesOn picks tables known position before p cells (Ok (Accepted other.version)) learned others other new q
       mine_sent is =
           let one : mine ≡ entry = sym is ∙ sym (held_is known learned held entry holds at) in
-          (refl, (entry, subst (λ (e : LogEntry). IsSent picks tables known position before p entry e learned other new q) one is_sent))
+          (refl, (entry, subst (λ (e : LogEntry). IsSent picks tables known position before p entry e learned others other new q) one is_sent))
 
-      pub other_sent : (held ≡ mine → ⊥) → PushesOn picks tables known position before p cells (Ok (Other other.version)) learned other new q
+      pub other_sent : (held ≡ mine → ⊥) → PushesOn picks tables known position before p cells (Ok (Other other.version)) learned others other new q
       other_sent not =
           (refl, (entry, mine, (λ same. not (sym (held_is known learned held entry holds at) ∙ sym same)), is_sent))
 
@@ -141,11 +155,12 @@ taken_leaves picks tables position ready old mid p q entry readied left pulled a
 -- and what its commit would have left, where that failed
 pub taken_next : {P : Type 0} (picks : P → Clash → Wish → P → Type 0) (tables others : List TableDef) (ready other : Position) (mid new : Contents) (p q : P) (learned : List LogEntry) (entry : LogEntry)
     → others ≡ tables → other ≡ ready → slice_get learned ready.version ≡ Some entry → new ≡ mid
-    → (left : Contents) → IsPulledIn picks others ready entry p q mid left → IsSentNext picks tables learned other new left
+    → (left : Contents) → IsPulledIn picks tables ready entry p q mid left → IsSentNext picks others learned other new left
 taken_next picks tables others ready other mid new p q learned entry same kept here stays left pulled =
-    inr (subst (λ (x : Position). IsNextKnown picks tables learned x new left) (sym kept)
+    inr (subst (λ (t : List TableDef). IsNextKnown picks t learned other new left) (sym same)
+    (subst (λ (x : Position). IsNextKnown picks tables learned x new left) (sym kept)
     (subst (λ (c : Contents). IsNextKnown picks tables learned ready c left) (sym stays)
-    (entry, here, (p, q, subst (λ (t : List TableDef). IsPulledIn picks t ready entry p q mid left) same pulled))))
+    (entry, here, (p, q, pulled)))))
 
 -- ---- nothing is pending
 

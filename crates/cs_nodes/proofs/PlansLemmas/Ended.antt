@@ -3,9 +3,11 @@ use Rattle.std.proofs.Common.{◌≡◌, ◌<◌, ℕ, zero, suc, List, [], ◌�
 use Rattle.std.specs.Prelude.{All, slice_get}
 use Rattle.std.proofs.lemmas.Option.{same_Some, slice_get-get_or}
 use Rattle.cs_map_store.specs.Slots.{InMemory, held_by}
-use Rattle.cs_nodes.specs.Nodes.{NodeState}
+use Rattle.cs_nodes.specs.Nodes.{IsOfOpening, NodeState}
 use Rattle.cs_opening.specs.Fresh.{first_position}
 use Rattle.cs_pending.specs.Laws.{empty_view}
+use Rattle.cs_pending.specs.declared.position.position.Position.{Position}
+use Rattle.cs_store.specs.log.Log.{catalog_at}
 use Rattle.cs_nodes.specs.following.Holding.{Shows}
 use Rattle.cs_spine.specs.Known.{SpineCells}
 use Rattle.cs_value.specs.declared.catalog.TableDef.{TableDef}
@@ -18,8 +20,17 @@ use Rattle.cs_nodes.specs.declared.plans.plan.Step.{Step}
 use Rattle.cs_nodes.proofs.PlansLemmas.Onward.{TurnsBy, counted}
 
 -- a new node as it is shown
-fresh : (id : ℕ) (start : NodeState InMemory) → start.pass.known ≡ [] → start.replica.position ≡ first_position id → node_at start empty_view ≡ first_node id
-fresh id start none first = (λ i. record { known = none i; position = first i; view = empty_view })
+fresh : (tables : List TableDef) (id : ℕ) (start : NodeState InMemory) → start.replica.catalog ≡ tables → start.pass.known ≡ [] → start.replica.position ≡ first_position id → node_at start empty_view ≡ first_node tables id
+fresh tables id start tabled none first = (λ i. record { tables = tabled i; known = none i; position = first i; view = empty_view })
+
+-- it is one that began with these tables
+began : (tables : List TableDef) (id : ℕ) (start : NodeState InMemory) → start.replica.catalog ≡ tables → start.replica.position ≡ first_position id → IsOfOpening tables start
+began tables id start tabled first =
+    let none : start.replica.position.version ≡ 0 = ap (λ (x : Position). x.version) first in
+    record {
+      within = omega (arith, none);
+      catalog = tabled ∙ sym (ap (λ (n : ℕ). catalog_at tables start.pass.known n) none);
+    }
 
 -- what a plan made of a new node is its end
 pub ended : (tables : List TableDef) (cells : SpineCells) (id : ℕ) (plan : List Step) (end : NodeEnd) (start : NodeState InMemory)
@@ -27,28 +38,26 @@ pub ended : (tables : List TableDef) (cells : SpineCells) (id : ℕ) (plan : Lis
     → TurnsBy plan end.steps.items start end.node → IsEnd tables cells id plan end
 ended tables cells id plan end start tabled of none first shows unread turns =
     let t = turns.turned unread empty_view shows in
-    let named : RunsPlan tables start.pass.spine.cap plan end.steps.items (node_at start empty_view) (node_at end.node t.0) =
-    subst (λ (ts : List TableDef). RunsPlan ts start.pass.spine.cap plan end.steps.items (node_at start empty_view) (node_at end.node t.0)) tabled t.3 in
-    let celled : RunsPlan tables cells.cap plan end.steps.items (node_at start empty_view) (node_at end.node t.0) =
-    subst (λ (s : SpineCells). RunsPlan tables s.cap plan end.steps.items (node_at start empty_view) (node_at end.node t.0)) of named in
-    let runs : RunsPlan tables cells.cap plan end.steps.items (first_node id) (node_at end.node t.0) =
-    subst (λ (n : NodeAt). RunsPlan tables cells.cap plan end.steps.items n (node_at end.node t.0)) (fresh id start none first) celled in
+    let celled : RunsPlan cells.cap plan end.steps.items (node_at start empty_view) (node_at end.node t.0) =
+    subst (λ (s : SpineCells). RunsPlan s.cap plan end.steps.items (node_at start empty_view) (node_at end.node t.0)) of t.3 in
+    let runs : RunsPlan cells.cap plan end.steps.items (first_node tables id) (node_at end.node t.0) =
+    subst (λ (n : NodeAt). RunsPlan cells.cap plan end.steps.items n (node_at end.node t.0)) (fresh tables id start tabled none first) celled in
     record {
-      catalog = turns.catalog ∙ tabled;
+      catalog = turns.catalog tables (began tables id start tabled first);
       spine = turns.spine ∙ of;
       view = t.0;
       shows = t.1;
       runs = runs;
-      counted = counted tables cells.cap plan end.steps.items (first_node id) (node_at end.node t.0) runs;
+      counted = counted cells.cap plan end.steps.items (first_node tables id) (node_at end.node t.0) runs;
     }
 
--- each end is of the row of cells and has the tables
+-- each end is of the row of cells and began with the tables
 pub of_spine : (tables : List TableDef) (cells : SpineCells) (plans : List (List Step)) (ends : List NodeEnd) → AreEnds tables cells plans ends → All (λ end. end.node.pass.spine ≡ cells) ends
 of_spine tables cells plans ends are k d less =
     let within : k < length plans = omega (arith, are.counted, less) in
     (are.each k (get_or plans k []) (get_or ends k d) (slice_get-get_or plans k [] within) (slice_get-get_or ends k d less)).spine
 
-pub of_catalog : (tables : List TableDef) (cells : SpineCells) (plans : List (List Step)) (ends : List NodeEnd) → AreEnds tables cells plans ends → All (λ end. end.node.replica.catalog ≡ tables) ends
+pub of_catalog : (tables : List TableDef) (cells : SpineCells) (plans : List (List Step)) (ends : List NodeEnd) → AreEnds tables cells plans ends → All (λ end. IsOfOpening tables end.node) ends
 of_catalog tables cells plans ends are k d less =
     let within : k < length plans = omega (arith, are.counted, less) in
     (are.each k (get_or plans k []) (get_or ends k d) (slice_get-get_or plans k [] within) (slice_get-get_or ends k d less)).catalog

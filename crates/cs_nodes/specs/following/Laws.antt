@@ -73,11 +73,11 @@ IsOfEntries (Err Spent) = Unit {0}
 IsOfEntries (Err TooLarge) = Unit {0}
 
 module _ {P : Type 0} (picks : P → Clash → Wish → P → Type 0) where
-  -- by a picker that answers each clash once, a pull of what is known has one result. It leaves one position, one thing in the store, and
-  -- one state of the picker
+  -- by a picker that answers each clash once, a pull of what is known has one result. It leaves one catalog, one position, one thing in
+  -- the store, and one state of the picker
   abbrev pub OneKnownPull : Type 0
   OneKnownPull =
-      (tables : List TableDef) (known : List LogEntry) (old new last : Contents) (position here there : Position) (before : View)
+      (tables wide its : List TableDef) (known : List LogEntry) (old new last : Contents) (position here there : Position) (before : View)
       (some other : Result ℕ NodeFault) (p q r : P)
       → AreTables tables
       → AreNormal known
@@ -85,9 +85,9 @@ module _ {P : Type 0} (picks : P → Clash → Wish → P → Type 0) where
       → ShowsAt tables old position before
       → IsOfEntries some
       → IsOfEntries other
-      → PullsAll picks tables known some position before p here new q
-      → PullsAll picks tables known other position before p there last r
-      → (some ≡ other) × (here ≡ there) × (new ≡ last) × (q ≡ r)
+      → PullsAll picks tables known some position before p wide here new q
+      → PullsAll picks tables known other position before p its there last r
+      → (some ≡ other) × (wide ≡ its) × (here ≡ there) × (new ≡ last) × (q ≡ r)
 
   -- and there is one. A replica that is not ahead of what is known comes to the last of it or to an entry that isn't pulled. There is a
   -- store that holds what is left
@@ -101,8 +101,8 @@ module _ {P : Type 0} (picks : P → Clash → Wish → P → Type 0) where
       → ShowsAt tables old position before
       → AnswersLawfully picks is_ready
       → is_ready p
-      → (result : Result ℕ NodeFault) × (other : Position) × (new : Contents) × (q : P) × IsOfEntries result
-      × PullsAll picks tables known result position before p other new q
+      → (result : Result ℕ NodeFault) × (others : List TableDef) × (other : Position) × (new : Contents) × (q : P) × IsOfEntries result
+      × PullsAll picks tables known result position before p others other new q
 
 -- ---- pushes
 
@@ -112,10 +112,10 @@ IsOfOffer (Ok told) = Unit {0}
 IsOfOffer (Err fault) = IsOfEntries (Err fault)
 
 -- by a picker that answers each clash once, a push has one outcome, given what is known as it ends. Of the cell that it is offered for,
--- that is its entry. The push leaves one position, one thing in the store, and one state of the picker
+-- that is its entry. The push leaves one catalog, one position, one thing in the store, and one state of the picker
 abbrev pub OneKnownPush : {P : Type 0} → (P → Clash → Wish → P → Type 0) → Type 0
 OneKnownPush {P} picks =
-    (tables : List TableDef) (known learned : List LogEntry) (cells : ℕ) (old new last : Contents) (position here there : Position) (before : View)
+    (tables wide its : List TableDef) (known learned : List LogEntry) (cells : ℕ) (old new last : Contents) (position here there : Position) (before : View)
     (some other : Result NodePush NodeFault) (p q r : P)
     → AreTables tables
     → AreNormal learned
@@ -123,6 +123,6 @@ OneKnownPush {P} picks =
     → ShowsAt tables old position before
     → IsOfOffer some
     → IsOfOffer other
-    → PushesOn picks tables known position before p cells some learned here new q
-    → PushesOn picks tables known position before p cells other learned there last r
-    → (some ≡ other) × (here ≡ there) × (new ≡ last) × (q ≡ r)
+    → PushesOn picks tables known position before p cells some learned wide here new q
+    → PushesOn picks tables known position before p cells other learned its there last r
+    → (some ≡ other) × (wide ≡ its) × (here ≡ there) × (new ≡ last) × (q ≡ r)

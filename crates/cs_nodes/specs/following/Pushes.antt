@@ -5,7 +5,7 @@ use Rattle.cs_value.specs.declared.catalog.TableDef.{TableDef}
 use Rattle.cs_normal.specs.State.{IsDefinedOn}
 use Rattle.cs_normal.specs.declared.normal.TableChanges.{TableChanges}
 use Rattle.cs_store.specs.log.Entry.{entry_changes}
-use Rattle.cs_store.specs.log.Log.{tables_at}
+use Rattle.cs_store.specs.log.Log.{catalog_after, tables_at}
 use Rattle.cs_store.specs.declared.log.entry.LogEntry.{LogEntry}
 use Rattle.cs_store.specs.Contents.{Contents}
 use Rattle.cs_conflict.specs.declared.clash.Clash.{Clash}
@@ -58,8 +58,8 @@ IsReadyFault TooLarge tables position view = IsPushFault push.TooLarge tables po
 
 module _ {P : Type 0} (picks : P → Clash → Wish → P → Type 0) (tables : List TableDef) (known : List LogEntry) (position : Position) (before : View) (p : P) where
   -- the push was offered for the cell behind all that was known, at the replica's version, where it is defined. The cell holds this
-  -- entry, which was pulled
-  pub record IsSent (entry mine : LogEntry) (learned : List LogEntry) (other : Position) (new : Contents) (q : P) : Type 0 where
+  -- entry, which was pulled. `others` are the replica's tables then
+  pub record IsSent (entry mine : LogEntry) (learned : List LogEntry) (others : List TableDef) (other : Position) (new : Contents) (q : P) : Type 0 where
     pub at_end : position.version ≡ length known
     pub ready : Position
     pub view : View
@@ -69,22 +69,23 @@ module _ {P : Type 0} (picks : P → Clash → Wish → P → Type 0) (tables : 
     pub holds : learned ≡ known ++ entry ∷ []
     pub after : View
     pub pulls : PullsOne picks tables ready entry view p after q
+    pub catalog : others ≡ catalog_after tables entry.body
     pub version : other ≡ taken ready other.pending
-    pub shows : ShowsAt tables new other after
+    pub shows : ShowsAt others new other after
 
   -- what is told of a push, and what it has made of the replica. There is nothing to push, or the replica is behind what is known,
   -- or the cell holds the push, or another entry
-  abbrev pub IsPushTold : NodePush → List LogEntry → Position → Contents → P → Type 0
-  IsPushTold Nothing learned other new q =
+  abbrev pub IsPushTold : NodePush → List LogEntry → List TableDef → Position → Contents → P → Type 0
+  IsPushTold Nothing learned others other new q =
       (position.flight ≡ None) × HasNothing tables before
-      × (learned ≡ known) × (other ≡ position) × ShowsAt tables new position before × (q ≡ p)
-  IsPushTold Behind learned other new q =
+      × (learned ≡ known) × (others ≡ tables) × (other ≡ position) × ShowsAt tables new position before × (q ≡ p)
+  IsPushTold Behind learned others other new q =
       (IsAtRest position → ⊥) × (position.version < length known)
-      × (learned ≡ known) × (other ≡ position) × ShowsAt tables new position before × (q ≡ p)
-  IsPushTold (Accepted version) learned other new q =
-      (version ≡ other.version) × ((entry : LogEntry) × IsSent entry entry learned other new q)
-  IsPushTold (Other version) learned other new q =
-      (version ≡ other.version) × ((entry : LogEntry) × (mine : LogEntry) × (mine ≢ entry) × IsSent entry mine learned other new q)
+      × (learned ≡ known) × (others ≡ tables) × (other ≡ position) × ShowsAt tables new position before × (q ≡ p)
+  IsPushTold (Accepted version) learned others other new q =
+      (version ≡ other.version) × ((entry : LogEntry) × IsSent entry entry learned others other new q)
+  IsPushTold (Other version) learned others other new q =
+      (version ≡ other.version) × ((entry : LogEntry) × (mine : LogEntry) × (mine ≢ entry) × IsSent entry mine learned others other new q)
 
   -- the replica is as it was, or a push is under way
   abbrev pub IsHeld : Position → View → Type 0
@@ -117,16 +118,17 @@ module _ {P : Type 0} (picks : P → Clash → Wish → P → Type 0) (tables : 
   IsNotOffered cells TooLarge ready view = IsNotMade push.TooLarge ready view
 
   -- what is left of a push that failed: the last step, or both, stay out
-  pub record IsNotPushed (cells : ℕ) (fault : NodeFault) (learned : List LogEntry) (other : Position) (new : Contents) (q : P) : Type 0 where
+  pub record IsNotPushed (cells : ℕ) (fault : NodeFault) (learned : List LogEntry) (others : List TableDef) (other : Position) (new : Contents) (q : P) : Type 0 where
     pub view : View
     pub held : IsHeld other view
+    pub catalog : others ≡ tables
     pub shows : ShowsAt tables new other view
     pub told : (IsNotOffered cells fault other view × (learned ≡ known) × (q ≡ p)) ⊎ IsNotTaken fault learned other view q
 
-  -- what became of a push on a row of so many cells
-  abbrev pub PushesOn : ℕ → Result NodePush NodeFault → List LogEntry → Position → Contents → P → Type 0
-  PushesOn cells (Ok told) learned other new q = IsPushTold told learned other new q
-  PushesOn cells (Err fault) learned other new q = IsNotPushed cells fault learned other new q
+  -- what became of a push on a row of so many cells. `others` are the replica's tables then
+  abbrev pub PushesOn : ℕ → Result NodePush NodeFault → List LogEntry → List TableDef → Position → Contents → P → Type 0
+  PushesOn cells (Ok told) learned others other new q = IsPushTold told learned others other new q
+  PushesOn cells (Err fault) learned others other new q = IsNotPushed cells fault learned others other new q
 
 -- contents that stood after one of the commits: a push was made, or the entry of its cell was pulled after that
 abbrev pub IsSentAmong : {P : Type 0} → (P → Clash → Wish → P → Type 0) → List TableDef → Position → Contents → P → Contents → Type 0
@@ -135,7 +137,7 @@ IsSentAmong {P} picks tables position old p left =
     → (ready : Position) × (view : View) × IsReady tables position before ready view
     × (ShowsAt tables left ready view
     ⊎ ((entry : LogEntry) × (after : View) × (q : P) × (pending : ℕ)
-    × PullsOne picks tables ready entry view p after q × ShowsAt tables left (taken ready pending) after))
+    × PullsOne picks tables ready entry view p after q × ShowsAt (catalog_after tables entry.body) left (taken ready pending) after))
 
 -- contents that one commit more would have left: a push was made, or of what is known the entry at the version was pulled
 abbrev pub IsSentNext : {P : Type 0} → (P → Clash → Wish → P → Type 0) → List TableDef → List LogEntry → Position → Contents → Contents → Type 0

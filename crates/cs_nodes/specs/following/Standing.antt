@@ -1,10 +1,10 @@
 -- A replica that stands on the entries that a thread knows of a log (profile of this project).
-use Rattle.std.specs.Prelude.{◌≡◌, List, ◌++◌, Some, slice_get, take}
+use Rattle.std.specs.Prelude.{◌≡◌, ◌≤◌, ℕ, List, ◌++◌, Some, slice_get, take}
 use Rattle.cs_value.specs.Catalog.{AreTables}
 use Rattle.cs_value.specs.declared.catalog.TableDef.{TableDef}
 use Rattle.cs_normal.specs.State.{IsDefinedOn}
 use Rattle.cs_store.specs.log.Entry.{MayWiden, entry_changes}
-use Rattle.cs_store.specs.log.Log.{IsLog, tables_at}
+use Rattle.cs_store.specs.log.Log.{IsLog, catalog_at, catalog_of, entries_between, tables_at}
 use Rattle.cs_store.specs.declared.log.entry.LogEntry.{LogEntry}
 use Rattle.cs_store.specs.declared.store.RowStore.{Ghosts}
 use Rattle.cs_pending.specs.View.{View}
@@ -16,11 +16,19 @@ use Rattle.cs_replica.specs.Stands.{StandsOn}
 abbrev pub Begins : List LogEntry → List LogEntry → Type 0
 Begins first second = (more : List LogEntry) × (second ≡ first ++ more)
 
--- the tables are a catalog's. Each of the first entries, as many as the version, is defined on the tables that those before it
--- make. Where what is pending and what is under way are taken back, what is left is what the entries make together
+-- from the one version to the other, which is not below it, the known entries make the other tables of these
+pub record TablesGoOn (known : List LogEntry) (tables : List TableDef) (from : ℕ) (others : List TableDef) (to : ℕ) : Type 0 where
+  pub onwards : from ≤ to
+  pub catalog : others ≡ catalog_of tables (entries_between known from to)
+
+-- the first entries, as many as the version, are a log that opened with some catalog's tables. Each is defined on the tables that those
+-- before it make. What they make of the opening ones are these. Where what is pending and what is under way are taken back, what is left
+-- is what the entries make together
 pub record StandsIn (tables : List TableDef) (known : List LogEntry) (position : Position) (view : View) : Type 0 where
-  pub of_catalog : AreTables tables
-  pub front : IsLog tables (take position.version known)
+  pub opening : List TableDef
+  pub of_catalog : AreTables opening
+  pub front : IsLog opening (take position.version known)
+  pub catalog : tables ≡ catalog_at opening known position.version
   pub stands : StandsOn known position view
 
 -- where the store is honest, it shows a replica that stands there

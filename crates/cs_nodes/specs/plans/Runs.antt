@@ -28,15 +28,16 @@ use Rattle.cs_nodes.specs.declared.plans.plan.StepOutcome.{StepOutcome}
 use Rattle.cs_nodes.specs.declared.plans.plan.StepOutcome.TheVariants.{Edited, NotEdited, Pulled, Pushed, Failed}
 use Rattle.cs_nodes.specs.declared.plans.plan.Stepped.{Stepped}
 
--- a node: the entries that its pass knows, where its replica stands, and its rows and pending changes
+-- a node: its replica's tables, the entries that its pass knows, where the replica stands, and its rows and pending changes
 pub record NodeAt : Type 0 where
+  pub tables : List TableDef
   pub known : List LogEntry
   pub position : Position
   pub view : View
 
--- one to which nothing has happened
-abbrev pub first_node : ℕ → NodeAt
-first_node id = record { known = []; position = first_position id; view = empty_view }
+-- one of these tables, to which nothing has happened
+abbrev pub first_node : List TableDef → ℕ → NodeAt
+first_node tables id = record { tables = tables; known = []; position = first_position id; view = empty_view }
 
 -- how a node stands after a call, beside how it stood before
 pub record IsMark (old new : NodeAt) (mark : Mark) : Type 0 where
@@ -49,26 +50,26 @@ abbrev pub TellsNoDevice : StepOutcome → Type 0
 TellsNoDevice outcome = (outcome ≢ NotEdited editing.Device) × (outcome ≢ Failed moving.Device)
 
 -- `left` is what the store holds then; the row has so many cells
-module _ (tables : List TableDef) (cells : ℕ) where
+module _ (cells : ℕ) where
   -- a pull by these wishes: so many entries, or why no more
   abbrev pub PullsBy : List Wish → Result ℕ NodeFault → NodeAt → NodeAt → Contents → Type 0
   PullsBy wishes result old new left =
-      (unused : List Wish) × PullsAll IsWished tables new.known result old.position old.view wishes new.position left unused
+      (unused : List Wish) × PullsAll IsWished old.tables new.known result old.position old.view wishes new.tables new.position left unused
 
   -- a push by these wishes; that there is nothing to push is told first, and then that entries are known which weren't taken
   pub record PushesBy (wishes : List Wish) (result : Result NodePush NodeFault) (old new : NodeAt) (left : Contents) : Type 0 where
     pub unused : List Wish
-    pub pushes : PushesOn IsWished tables old.known old.position old.view wishes cells result new.known new.position left unused
+    pub pushes : PushesOn IsWished old.tables old.known old.position old.view wishes cells result new.known new.tables new.position left unused
     pub nothing : IsAtRest old.position → result ≡ Ok Nothing
     pub behind : (IsAtRest old.position → ⊥) → old.position.version < length old.known → result ≡ Ok Behind
 
   -- what a call makes of a node, and what it comes to
   abbrev pub ComesTo : Step → StepOutcome → NodeAt → NodeAt → Contents → Type 0
   ComesTo (Edit asked) Edited old new left =
-      (edit tables (table_of_edit asked) (asked_of_edit asked) old.view ≡ Ok new.view)
-      × (new.position ≡ with_pending old.position new.position.pending) × (new.known ≡ old.known)
+      (edit old.tables (table_of_edit asked) (asked_of_edit asked) old.view ≡ Ok new.view)
+      × (new.position ≡ with_pending old.position new.position.pending) × (new.known ≡ old.known) × (new.tables ≡ old.tables)
   ComesTo (Edit asked) (NotEdited fault) old new left =
-      (IsOfStore fault ⊎ (edit tables (table_of_edit asked) (asked_of_edit asked) old.view ≡ Err fault)) × (new ≡ old)
+      (IsOfStore fault ⊎ (edit old.tables (table_of_edit asked) (asked_of_edit asked) old.view ≡ Err fault)) × (new ≡ old)
   ComesTo (Pull wishes) (Pulled count) old new left = PullsBy wishes (Ok count) old new left
   ComesTo (Pull wishes) (Failed fault) old new left = PullsBy wishes (Err fault) old new left
   ComesTo (Push wishes) (Pushed told) old new left = PushesBy wishes (Ok told) old new left
@@ -80,7 +81,7 @@ module _ (tables : List TableDef) (cells : ℕ) where
   pub record RunsStep (step : Step) (stepped : Stepped) (old new : NodeAt) : Type 0 where
     pub begins : Begins old.known new.known
     pub left : Contents
-    pub shows : ShowsAt tables left new.position new.view
+    pub shows : ShowsAt new.tables left new.position new.view
     pub makes : ComesTo step stepped.outcome old new left
     pub marked : IsMark old new stepped.mark
     pub no_device : TellsNoDevice stepped.outcome

@@ -3,6 +3,7 @@
 ghost use Rattle.std.specs.Prelude.{◌≡◌, ◌≢◌, ◌⊎◌, ◌↔◌, ◌<◌, ◌≤◌, ◌+◌, ◌∷◌, ◌++◌, [], Err, IfOk, IsFalse, IsTrue, MatchResult, Ok, OnErr, OnOk, Some, length, slice_get, vec_capacity, vec_len};
 ghost use Rattle.cs_hub.specs.appending.Appended.{AppendsEntry};
 ghost use Rattle.cs_nodes.specs.following.Standing.{Begins};
+ghost use Rattle.cs_hub.specs.Holding.{versions_of};
 ghost use Rattle.cs_hub.specs.Judges.{AppendsJudged, HasRoom, IsJudged, ReadsHub};
 ghost use Rattle.cs_hub.specs.Opened.{Opens};
 ghost use Rattle.cs_hub.specs.Serves.{Serves};
@@ -66,8 +67,8 @@ impl<'s, S: RowStore + Drop> Book<'s, S> {
         ensures catalog { IfOk result (λ book. book.hub.catalog ≡ catalog.now) }
         ensures fresh { IfOk result (λ book. book.hub.newest ≡ 0) }
 
-        // What a stop leaves, and how the count of failures goes. At `Err` that is of the store as it was when it was let go, and what is told
-        // of it holds.
+        // What a stop leaves, and how the count of failures goes. At `Err` that is of the store as it was when it was let go, and what is
+        // told of it holds.
         ensures opens { MatchResult result
             (λ book. Opens S.RowStore catalog.now store book.hub.store (Ok tt))
             (λ fault. (last : S) × Opens S.RowStore catalog.now store last (Err fault)
@@ -178,7 +179,7 @@ impl<'s, S: RowStore> Book<'s, S> {
         ensures reads { ReadsHub S.RowStore self.old.hub self.new.hub }
         ensures same_reads { S.honest self.new.hub.store → S.misreads self.new.hub.store ≡ S.misreads self.old.hub.store }
         ensures room { IfOk result (HasRoom (length self.old.pass.known) (most_cells self.old.row)) }
-        ensures appends { S.honest self.new.hub.store → IfOk result (AppendsJudged self.new.hub.catalog (S.contents self.new.hub.store)) }
+        ensures appends { S.honest self.new.hub.store → IfOk result (AppendsJudged (versions_of self.new.hub) (S.contents self.new.hub.store)) }
         ensures judged { S.honest self.new.hub.store → IfOk result (IsJudged (MoreFailures (S.failed self.old.hub.store) (S.failed self.new.hub.store))
             (most_cells self.old.row) self.old.hub.catalog self.old.pass.known request.now) }
     {
@@ -206,7 +207,7 @@ impl<'s, S: RowStore> Book<'s, S> {
     /// Takes the next entry that it knows, which it has judged, by the batch that came with it.
     fn take_judged(&mut self, entry: &LogEntry, batch: &Batch) -> Result<(), StoreFault>
         requires known { slice_get self.old.pass.known self.old.hub.newest ≡ Some entry.now }
-        requires tried { S.honest self.old.hub.store → AppendsEntry self.old.hub.catalog entry.now (S.contents self.old.hub.store) batch.now }
+        requires tried { S.honest self.old.hub.store → AppendsEntry (versions_of self.old.hub) entry.now (S.contents self.old.hub.store) batch.now }
         ensures later { IsLater S.RowStore (OnErr result ⊥) self.old self.new }
         ensures pass { self.new.pass ≡ self.old.pass }
         ensures taken { OnOk result (self.new.hub.newest ≡ self.old.hub.newest + 1) }
@@ -225,7 +226,7 @@ impl<'s, S: RowStore> Book<'s, S> {
         room: Vec<u8>,
     ) -> Result<Vec<u8>, Memory>
         requires known { slice_get self.old.pass.known self.old.hub.newest ≡ Some entry.now }
-        requires tried { S.honest self.old.hub.store → AppendsEntry self.old.hub.catalog entry.now (S.contents self.old.hub.store) batch.now }
+        requires tried { S.honest self.old.hub.store → AppendsEntry (versions_of self.old.hub) entry.now (S.contents self.old.hub.store) batch.now }
         requires room { vec_len room + SHORT ≤ vec_capacity room }
         requires empty { room.items ≡ [] }
         ensures later { IsLater S.RowStore (IsAnswered result) self.old self.new }
@@ -273,7 +274,7 @@ impl<'s, S: RowStore> Book<'s, S> {
     ) -> Result<Vec<u8>, Memory>
         requires level { self.old.hub.newest ≡ length self.old.pass.known }
         requires more { length self.old.pass.known < most_cells self.old.row }
-        requires tried { S.honest self.old.hub.store → AppendsEntry self.old.hub.catalog entry.now (S.contents self.old.hub.store) batch.now }
+        requires tried { S.honest self.old.hub.store → AppendsEntry (versions_of self.old.hub) entry.now (S.contents self.old.hub.store) batch.now }
         requires room { vec_len room + SHORT ≤ vec_capacity room }
         requires empty { room.items ≡ [] }
         requires judged { S.honest self.old.hub.store → Serves (most_cells self.old.row) (hub_of self.old.hub.catalog self.old.pass.known) request.now reply.items
@@ -299,8 +300,8 @@ impl<'s, S: RowStore> Book<'s, S> {
     /// `Memory` where memory was refused. What was seen and taken stays, also a push that has come into its cell: it is told as that when
     /// the request comes again.
     pub fn serve(&mut self, request: &[u8]) -> Result<Vec<u8>, Memory>
-        // The book is that of the same row of cells and tables; it knows more, and has taken more of it. Where it answers otherwise than that
-        // the device failed, all that it has taken stands, also after a stop.
+        // The book is that of the same row of cells and tables; it knows more, and has taken more of it. Where it answers otherwise than
+        // that the device failed, all that it has taken stands, also after a stop.
         ensures later { IsLater S.RowStore (IsAnswered result) self.old self.new }
 
         // The answer is the hub's on all that is known; or that the next entry doesn't fit; or that the device failed.

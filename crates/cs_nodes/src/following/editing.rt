@@ -45,6 +45,7 @@ pub fn edit_row<S: RowStore>(
     ensures stands { (known : List Entry) → StandsWhereHonest S.RowStore known replica.old → StandsWhereHonest S.RowStore known replica.new }
 {
     cs_replica::laws::edit_stands();
+    cs_store::log::laws::catalogs_are_tables();
     match replica.edit(alloc, edit) {
         Ok(()) => {
             replica.shown();

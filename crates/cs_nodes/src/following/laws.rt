@@ -27,11 +27,12 @@ pub fn equal_where_met()
     cs_replica::laws::equal_at_rest();
 }
 
-/// Where a picker has one answer to each clash, a pull of what is known has one result. It leaves one position, one thing in the store,
-/// and one state of the picker.
+/// Where a picker has one answer to each clash, a pull of what is known has one result. It leaves one catalog, one position, one thing in
+/// the store, and one state of the picker.
 pub fn one_known_pull<P: Picker>()
     ensures { OneKnownPull P.picks }
 {
+    cs_widening::laws::widened_are_tables();
     cs_pending::laws::one_view();
     cs_exchange::taking::laws::one_contents();
     cs_exchange::taking::laws::one_stop_taking::<P>();
@@ -43,14 +44,16 @@ pub fn one_known_pull<P: Picker>()
 pub fn known_pull_has_result<P: Picker>()
     ensures { KnownPullHasResult P.picks P.is_ready }
 {
+    cs_widening::laws::widened_are_tables();
     cs_exchange::pulling::laws::pulled_or_refused::<P>();
 }
 
 /// Where a picker has one answer to each clash, a push has one outcome, given the entry of the cell that it is offered for. It leaves one
-/// position, one thing in the store, and one state of the picker.
+/// catalog, one position, one thing in the store, and one state of the picker.
 pub fn one_known_push<P: Picker>()
     ensures { OneKnownPush P.picks }
 {
+    cs_widening::laws::widened_are_tables();
     cs_pending::laws::one_view();
     cs_exchange::taking::laws::one_contents();
     cs_exchange::taking::laws::one_stop_taking::<P>();

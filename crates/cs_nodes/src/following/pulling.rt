@@ -6,7 +6,7 @@ ghost use Rattle.cs_pending.specs.position.Shows.{ShowsSomeAt};
 ghost use Rattle.cs_exchange.specs.pulling.Calls.{WritesInTurn};
 ghost use Rattle.cs_replica.specs.Holding.{Shows};
 ghost use Rattle.cs_nodes.specs.following.Pulls.{IsNextKnown, IsPulledAmong, PullsAll};
-ghost use Rattle.cs_nodes.specs.following.Standing.{Begins, IsBadAt, StandsWhereHonest};
+ghost use Rattle.cs_nodes.specs.following.Standing.{Begins, IsBadAt, StandsWhereHonest, TablesGoOn};
 ghost use Rattle.cs_nodes.specs.declared.following.fault.NodeFault.TheVariants.{BadEntry, Device};
 
 use crate::following::fault::NodeFault;
@@ -40,19 +40,21 @@ pub fn pull_known<'s, S: RowStore, P: Picker>(
 
     // Those before the one at which it ended were pulled, one after another.
     ensures pulled { S.honest replica.new.store → (before : View) → Shows S.contents replica.old before
-        → PullsAll P.picks replica.old.catalog pass.new.known result replica.old.position before picker.old replica.new.position (S.contents replica.new.store) picker.new }
+        → PullsAll P.picks replica.old.catalog pass.new.known result replica.old.position before picker.old replica.new.catalog replica.new.position (S.contents replica.new.store) picker.new }
 
     // Each in a commit of its own. Those that were taken stay, however it ended. A stop then leaves what the store holds, or, at an
     // `Err`, that with the next entry taken too. Where nothing was written, it may also leave what it could before.
     ensures writes { WritesInTurn S.RowStore (IsOk result) (result ≡ Err Device)
         (ShowsSomeAt replica.old.catalog replica.old.position (S.contents replica.old.store))
         (IsPulledAmong P.picks replica.old.catalog pass.new.known replica.old.position (S.contents replica.old.store) picker.old)
-        (IsNextKnown P.picks replica.old.catalog pass.new.known replica.new.position (S.contents replica.new.store)) replica.old.store replica.new.store }
+        (IsNextKnown P.picks replica.new.catalog pass.new.known replica.new.position (S.contents replica.new.store)) replica.old.store replica.new.store }
 
     // At `Ok` it has come to the last that is known.
     ensures level { IfOk result (λ count. (replica.new.position.version ≡ length pass.new.known) × (replica.new.position.version ≡ replica.old.position.version + count)) }
     ensures within { replica.new.position.version ≤ length pass.new.known }
-    ensures catalog { replica.new.catalog ≡ replica.old.catalog }
+
+    // The tables are those that the entries leave which were taken.
+    ensures catalog { TablesGoOn pass.new.known replica.old.catalog replica.old.position.version replica.new.catalog replica.new.position.version }
 
     // It stands on what is known, where it did; and an entry that is told to be bad isn't defined there.
     ensures stands { StandsWhereHonest S.RowStore pass.old.known replica.old → StandsWhereHonest S.RowStore pass.new.known replica.new }

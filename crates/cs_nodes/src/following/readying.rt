@@ -44,6 +44,7 @@ pub(crate) fn flight_entry<S: RowStore>(
         → IfOk result (λ found. IfSome found (λ entry. IsDefinedOn replica.now.catalog (entry_changes entry) (tables_at known replica.now.position.version))) }
 {
     cs_replica::laws::flight_fits();
+    cs_store::log::laws::catalogs_are_tables();
     cs_normal::laws::defined_is_applied();
     replica.shown();
     if replica.in_flight().is_none() {
@@ -80,6 +81,7 @@ fn make_one<S: RowStore>(alloc: Global, replica: &mut Replica<S>) -> Result<bool
     ensures full { result ≢ Err Full }
 {
     cs_store::log::laws::one_body();
+    cs_store::log::laws::catalogs_are_tables();
     cs_replica::laws::steps_stand();
     match replica.make_push(alloc) {
         Ok(_request) => {

@@ -7,7 +7,7 @@ ghost use Rattle.cs_pending.specs.position.Shows.{ShowsSomeAt};
 ghost use Rattle.cs_exchange.specs.pulling.Calls.{WritesInTurn};
 ghost use Rattle.cs_replica.specs.Holding.{Shows};
 ghost use Rattle.cs_nodes.specs.following.Pushes.{HasTaken, IsAtRest, IsSentAmong, IsSentNext, PushesOn};
-ghost use Rattle.cs_nodes.specs.following.Standing.{Begins, IsBadAt, StandsWhereHonest};
+ghost use Rattle.cs_nodes.specs.following.Standing.{Begins, IsBadAt, StandsWhereHonest, TablesGoOn};
 ghost use Rattle.cs_nodes.specs.declared.following.fault.NodeFault.TheVariants.{BadEntry, Device, Full};
 ghost use Rattle.cs_nodes.specs.declared.following.pushed.NodePush.TheVariants.{Nothing, Behind};
 
@@ -39,17 +39,19 @@ fn send<'s, S: RowStore, P: Picker>(
     // What is told, what it has made of the replica, and what the pass knows then.
     ensures pushed { S.honest replica.new.store → StandsWhereHonest S.RowStore pass.old.known replica.old
         → (before : View) → Shows S.contents replica.old before
-        → PushesOn P.picks replica.old.catalog pass.old.known replica.old.position before picker.old spine.now.cap result pass.new.known replica.new.position (S.contents replica.new.store) picker.new }
+        → PushesOn P.picks replica.old.catalog pass.old.known replica.old.position before picker.old spine.now.cap result pass.new.known replica.new.catalog replica.new.position (S.contents replica.new.store) picker.new }
 
     // The push, and what comes of it, are commits of their own.
     ensures writes { WritesInTurn S.RowStore (HasTaken result) (result ≡ Err Device)
         (ShowsSomeAt replica.old.catalog replica.old.position (S.contents replica.old.store))
         (IsSentAmong P.picks replica.old.catalog replica.old.position (S.contents replica.old.store) picker.old)
-        (IsSentNext P.picks replica.old.catalog pass.new.known replica.new.position (S.contents replica.new.store)) replica.old.store replica.new.store }
+        (IsSentNext P.picks replica.new.catalog pass.new.known replica.new.position (S.contents replica.new.store)) replica.old.store replica.new.store }
     ensures full { result ≡ Err Full → length pass.old.known ≡ spine.now.cap }
     ensures begins { Begins pass.old.known pass.new.known }
     ensures within { replica.new.position.version ≤ length pass.new.known }
-    ensures catalog { replica.new.catalog ≡ replica.old.catalog }
+
+    // The tables are those that the entries leave which were taken.
+    ensures catalog { TablesGoOn pass.new.known replica.old.catalog replica.old.position.version replica.new.catalog replica.new.position.version }
 
     // It stands on what is known, where it did; and an entry that is told to be bad isn't defined there.
     ensures stands { StandsWhereHonest S.RowStore pass.old.known replica.old → StandsWhereHonest S.RowStore pass.new.known replica.new }
@@ -57,6 +59,7 @@ fn send<'s, S: RowStore, P: Picker>(
         → IsBadAt replica.new.catalog pass.new.known replica.new.position.version }
 {
     cs_replica::laws::stands_longer();
+    cs_store::log::laws::catalogs_are_tables();
     let ready = match make_ready(alloc, replica) {
         Ok(ready) => ready,
         Err(fault) => return Err(fault),
@@ -112,7 +115,7 @@ pub fn push_known<'s, S: RowStore, P: Picker>(
     // What is told, what it has made of the replica, and what the pass knows then.
     ensures pushed { S.honest replica.new.store → StandsWhereHonest S.RowStore pass.old.known replica.old
         → (before : View) → Shows S.contents replica.old before
-        → PushesOn P.picks replica.old.catalog pass.old.known replica.old.position before picker.old spine.now.cap result pass.new.known replica.new.position (S.contents replica.new.store) picker.new }
+        → PushesOn P.picks replica.old.catalog pass.old.known replica.old.position before picker.old spine.now.cap result pass.new.known replica.new.catalog replica.new.position (S.contents replica.new.store) picker.new }
 
     // The push, and what comes of it, are commits of their own. What was made stays, however it ended, at `Full` too. A stop then
     // leaves what the store holds, or, where no entry was taken, that with one commit more. That commit makes the push or takes the
@@ -120,7 +123,7 @@ pub fn push_known<'s, S: RowStore, P: Picker>(
     ensures writes { WritesInTurn S.RowStore (HasTaken result) (result ≡ Err Device)
         (ShowsSomeAt replica.old.catalog replica.old.position (S.contents replica.old.store))
         (IsSentAmong P.picks replica.old.catalog replica.old.position (S.contents replica.old.store) picker.old)
-        (IsSentNext P.picks replica.old.catalog pass.new.known replica.new.position (S.contents replica.new.store)) replica.old.store replica.new.store }
+        (IsSentNext P.picks replica.new.catalog pass.new.known replica.new.position (S.contents replica.new.store)) replica.old.store replica.new.store }
 
     // Nothing is told first, then that it is behind; and nothing has changed then.
     ensures nothing { IsAtRest replica.old.position → (result ≡ Ok Nothing) × (replica.new ≡ replica.old) × (pass.new ≡ pass.old) }
@@ -129,7 +132,9 @@ pub fn push_known<'s, S: RowStore, P: Picker>(
     ensures full { result ≡ Err Full → length pass.old.known ≡ spine.now.cap }
     ensures begins { Begins pass.old.known pass.new.known }
     ensures within { replica.new.position.version ≤ length pass.new.known }
-    ensures catalog { replica.new.catalog ≡ replica.old.catalog }
+
+    // The tables are those that the entries leave which were taken.
+    ensures catalog { TablesGoOn pass.new.known replica.old.catalog replica.old.position.version replica.new.catalog replica.new.position.version }
 
     // It stands on what is known, where it did; and an entry that is told to be bad isn't defined there.
     ensures stands { StandsWhereHonest S.RowStore pass.old.known replica.old → StandsWhereHonest S.RowStore pass.new.known replica.new }

@@ -4,6 +4,7 @@ ghost use Rattle.std.specs.Prelude.{◌≡◌, ◌≢◌, ◌+◌, ◌≤◌, �
 ghost use Rattle.std.specs.FinMap.{len};
 ghost use Rattle.cs_normal.specs.Normal.{IsNormalChangeset};
 ghost use Rattle.cs_store.specs.log.Entry.{entry_changes};
+ghost use Rattle.cs_store.specs.log.Log.{catalog_after};
 ghost use Rattle.cs_store.specs.declared.log.entry.LogEntry.{LogEntry as Entry};
 ghost use Rattle.cs_pending.specs.Calls.{WritesStore};
 ghost use Rattle.cs_pending.specs.View.{View};
@@ -13,7 +14,7 @@ ghost use Rattle.cs_exchange.specs.pulling.Pulls.{IsPulledIn};
 ghost use Rattle.cs_replica.specs.Holding.{Shows};
 ghost use Rattle.cs_exchange.specs.taking.Takes.{taken};
 ghost use Rattle.cs_nodes.specs.following.Pulls.{IsNextKnown, IsPulledAmong, IsTakeFault, PullsAll};
-ghost use Rattle.cs_nodes.specs.following.Standing.{IsBadAt, StandsWhereHonest};
+ghost use Rattle.cs_nodes.specs.following.Standing.{IsBadAt, StandsWhereHonest, TablesGoOn};
 ghost use Rattle.cs_nodes.specs.declared.following.fault.NodeFault.TheVariants.{BadEntry, Device, Full};
 
 use crate::following::fault::{NodeFault, pull_fault};
@@ -49,7 +50,8 @@ pub(crate) fn take_next<S: RowStore, P: Picker>(
         → OnOk result (replica.new.position.pending ≡ len (S.contents replica.new.store).pending) }
     ensures refused { S.honest replica.new.store → (view : View) → Shows S.contents replica.old view
         → IfErr result (λ fault. IsTakeFault P.picks replica.old.catalog fault replica.old.position entry.now view picker.old picker.new) }
-    ensures catalog { replica.new.catalog ≡ replica.old.catalog }
+    ensures wide { OnOk result (replica.new.catalog ≡ catalog_after replica.old.catalog entry.now.body) }
+    ensures catalog { OnErr result (replica.new.catalog ≡ replica.old.catalog) }
     ensures kept { OnErr result (replica.new.position ≡ replica.old.position) }
     ensures full { result ≢ Err Full }
 {
@@ -78,7 +80,8 @@ pub(crate) fn take_standing<S: RowStore, P: Picker>(
         → OnOk result (replica.new.position.pending ≡ len (S.contents replica.new.store).pending) }
     ensures refused { S.honest replica.new.store → (view : View) → Shows S.contents replica.old view
         → IfErr result (λ fault. IsTakeFault P.picks replica.old.catalog fault replica.old.position entry.now view picker.old picker.new) }
-    ensures catalog { replica.new.catalog ≡ replica.old.catalog }
+    ensures wide { OnOk result (replica.new.catalog ≡ catalog_after replica.old.catalog entry.now.body) }
+    ensures catalog { OnErr result (replica.new.catalog ≡ replica.old.catalog) }
     ensures kept { OnErr result (replica.new.position ≡ replica.old.position) }
     ensures full { result ≢ Err Full }
 
@@ -93,9 +96,11 @@ pub(crate) fn take_standing<S: RowStore, P: Picker>(
 {
     cs_exchange::pulling::laws::pulled_leads(&*picker);
     cs_normal::laws::defined_is_applied();
+    cs_replica::laws::steps_stand();
     cs_store::log::laws::appended_is_log();
+    cs_store::log::laws::catalog_next();
+    cs_store::log::laws::catalogs_are_tables();
     normal_changes(entry);
-    cs_store::log::laws::catalog_stays();
     match take_next(alloc, replica, entry, picker) {
         Ok(()) => Ok(()),
         Err(fault) => Err(fault),
@@ -121,18 +126,20 @@ pub(crate) fn take_known<S: RowStore, P: Picker>(
 
     // Those before the one at which it ended were pulled, one after another.
     ensures pulled { S.honest replica.new.store → (before : View) → Shows S.contents replica.old before
-        → PullsAll P.picks replica.old.catalog pass.now.known result replica.old.position before picker.old replica.new.position (S.contents replica.new.store) picker.new }
+        → PullsAll P.picks replica.old.catalog pass.now.known result replica.old.position before picker.old replica.new.catalog replica.new.position (S.contents replica.new.store) picker.new }
 
     // Each in a commit of its own.
     ensures writes { WritesInTurn S.RowStore (IsOk result) (result ≡ Err Device)
         (ShowsSomeAt replica.old.catalog replica.old.position (S.contents replica.old.store))
         (IsPulledAmong P.picks replica.old.catalog pass.now.known replica.old.position (S.contents replica.old.store) picker.old)
-        (IsNextKnown P.picks replica.old.catalog pass.now.known replica.new.position (S.contents replica.new.store)) replica.old.store replica.new.store }
+        (IsNextKnown P.picks replica.new.catalog pass.now.known replica.new.position (S.contents replica.new.store)) replica.old.store replica.new.store }
 
     // At `Ok` it has come to the last that is known.
     ensures level { IfOk result (λ count. (replica.new.position.version ≡ length pass.now.known) × (replica.new.position.version ≡ replica.old.position.version + count)) }
     ensures within { replica.new.position.version ≤ length pass.now.known }
-    ensures catalog { replica.new.catalog ≡ replica.old.catalog }
+
+    // The tables are those that the entries leave which were taken.
+    ensures catalog { TablesGoOn pass.now.known replica.old.catalog replica.old.position.version replica.new.catalog replica.new.position.version }
 
     // It stands on what is known, where it did; and an entry that is told to be bad isn't defined there.
     ensures stands { StandsWhereHonest S.RowStore pass.now.known replica.old → StandsWhereHonest S.RowStore pass.now.known replica.new }

@@ -1,6 +1,7 @@
 //! Nodes that run their plans, each in a thread of its own, and their ends.
 
 ghost use Rattle.std.specs.Prelude.{◌≡◌, ◌≢◌, ◌≤◌, ◌<◌, ◌^◌, ◌↔◌, [], All, IfOk, IsErrOf, Ok, map, vec_capacity, vec_len};
+ghost use Rattle.cs_nodes.specs.Nodes.{IsOfOpening};
 ghost use Rattle.cs_nodes.specs.plans.Ends.{AreEnds, IsEnd};
 
 use crate::Node;
@@ -78,14 +79,15 @@ fn run_even<'s, R: Threads + Sync, P: Port + Send + Drop>(
     Ok(all)
 }
 
-/// Runs each plan in a thread of its own, on a new node over a store in memory. The node's id is the plan's place, from 0 on. All nodes are of
-/// one spine. The port at a plan's place is told before and after each of its calls, and goes when the plan has ended. All threads are joined,
-/// and the ends come in the order of the plans. Where a thread can't be started the calls run one after another.
+/// Runs each plan in a thread of its own, on a new node over a store in memory. The node's id is the plan's place, from 0 on. All nodes
+/// are of one spine. The port at a plan's place is told before and after each of its calls, and goes when the plan has ended. All threads
+/// are joined, and the ends come in the order of the plans. Where a thread can't be started the calls run one after another.
 ///
 /// # Errors
 ///
-/// `Uneven` exactly where there aren't as many ports as plans: no call was made then. `Memory` where a node wasn't opened, or a list had no
-/// room; the nodes are gone then, and what they have put into cells stays. Memory that is refused to a call of a plan is what that call came to.
+/// `Uneven` exactly where there aren't as many ports as plans: no call was made then. `Memory` where a node wasn't opened, or a list had
+/// no room; the nodes are gone then, and what they have put into cells stays. Memory that is refused to a call of a plan is what that
+/// call came to.
 pub fn run_nodes<'s, R: Threads + Sync, P: Port + Send + Drop>(
     rt: &R,
     alloc: Global,
@@ -99,9 +101,9 @@ pub fn run_nodes<'s, R: Threads + Sync, P: Port + Send + Drop>(
     // There is an end for each plan, in their order: what its calls made of a new node, one behind another.
     ensures ends { IfOk result (λ ends. AreEnds catalog.now spine.now plans.items ends.items) }
 
-    // Each node is of the spine and has the catalog, so that any two of them can be asked whether they meet.
+    // Each node is of the spine and began with the catalog, so that any two of them can be asked whether they meet.
     ensures spine { IfOk result (λ ends. All (λ end. end.node.pass.spine ≡ spine.now) ends.items) }
-    ensures catalog { IfOk result (λ ends. All (λ end. end.node.replica.catalog ≡ catalog.now) ends.items) }
+    ensures catalog { IfOk result (λ ends. All (λ end. IsOfOpening catalog.now end.node) ends.items) }
     ensures uneven { IsErrOf result RunFault.Uneven ↔ (vec_len ports ≢ vec_len plans) }
 {
     if ports.len() != plans.len() {

@@ -23,7 +23,7 @@ pub(crate) fn run_plan<'s, P: Port>(
     port: &mut P,
 ) -> Result<Vec<Stepped>, Memory>
     requires { node.old.pass.spine ≡ spine.now }
-    ensures { IfOk result (λ steps. TurnsNode (λ tables cells. RunsPlan tables cells plan.now steps.items) node.old node.new) }
+    ensures { IfOk result (λ steps. TurnsNode (λ cells. RunsPlan cells plan.now steps.items) node.old node.new) }
 {
     let mut rest = plan.as_slice();
     let mut steps = Vec::with_capacity(alloc, rest.len())?;

@@ -37,7 +37,7 @@ fn stepped<'s>(node: &Held<'s>, outcome: StepOutcome, made: bool) -> Stepped
 }
 
 fn run_edit<'s>(alloc: Global, node: &mut Held<'s>, edit: &Edit) -> Stepped
-    ensures { TurnsNode (λ tables cells. RunsStep tables cells (Edits edit.now) result) node.old node.new }
+    ensures { TurnsNode (λ cells. RunsStep cells (Edits edit.now) result) node.old node.new }
 {
     let edited = node.edit(alloc, edit);
     node.stands();
@@ -54,7 +54,7 @@ fn run_pull<'s>(
     wishes: &Items<Wish>,
 ) -> Stepped
     requires { node.old.pass.spine ≡ spine.now }
-    ensures { TurnsNode (λ tables cells. RunsStep tables cells (Pull wishes.now) result) node.old node.new }
+    ensures { TurnsNode (λ cells. RunsStep cells (Pull wishes.now) result) node.old node.new }
 {
     let mut picker = Wishes::new(wishes.as_slice());
     let pulled = node.pull(alloc, spine, &mut picker);
@@ -89,7 +89,7 @@ fn run_push<'s>(
     wishes: &Items<Wish>,
 ) -> Stepped
     requires { node.old.pass.spine ≡ spine.now }
-    ensures { TurnsNode (λ tables cells. RunsStep tables cells (Push wishes.now) result) node.old node.new }
+    ensures { TurnsNode (λ cells. RunsStep cells (Push wishes.now) result) node.old node.new }
 {
     let was_under_way = node.is_under_way();
     let mut picker = Wishes::new(wishes.as_slice());
@@ -115,7 +115,7 @@ pub(crate) fn run_step<'s>(
     step: &Step,
 ) -> Stepped
     requires { node.old.pass.spine ≡ spine.now }
-    ensures { TurnsNode (λ tables cells. RunsStep tables cells step.now result) node.old node.new }
+    ensures { TurnsNode (λ cells. RunsStep cells step.now result) node.old node.new }
 {
     match step {
         Step::Edit(edit) => run_edit(alloc, node, edit),

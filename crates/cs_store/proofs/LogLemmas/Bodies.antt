@@ -93,7 +93,7 @@ one_body laws taken again one tables (Changes some) (Widen table width) is_catal
 one_body laws taken again one tables (Widen table width) (Changes some) is_catalog are also may might is = absurd (two_kinds (normal_spelling some) (widen_spelling table width) (sym is))
 one_body laws taken again one tables (Widen table width) (Widen other columns) is_catalog are also may might is =
     let spelled : widen_spelling table width ≡ widen_spelling other columns = cc in
-    let same = one_widen table other width columns may.1.4 might.1.4 spelled in
+    let same = one_widen table other width columns may.4 might.4 spelled in
     ap (λ (t : List ℕ). Widen t width) same.0 ∙ ap (λ (w : ℕ). Widen other w) same.1
 
 -- bytes with a fault spell none
@@ -162,14 +162,14 @@ told_as tables bytes (Err fault) told is and none = subst (λ (f : BodyFault). R
 -- ---- a table that is widened, as read
 
 pub found_widen : (tables : List TableDef) (bytes name : List ℕ) (width place : ℕ) (table : TableDef) → place < length tables → slice_index_or tables place table ≡ table → WidensTable name width table → bytes ≡ widen_spelling name width → (copied : List ℕ) → copied ≡ table.name → ReadsWiden tables bytes (Ok (Widen copied width))
-found_widen tables bytes name width place table within there (on, named, less, most) is copied same =
-    (copied, width, refl, (on, (table, (place, within, there), sym same, less, most)), is ∙ ap (λ (n : List ℕ). widen_spelling n width) (sym named ∙ sym same))
+found_widen tables bytes name width place table within there (named, less, most) is copied same =
+    (copied, width, refl, (table, (place, within, there), sym same, less, most), is ∙ ap (λ (n : List ℕ). widen_spelling n width) (sym named ∙ sym same))
 
 pub none_narrow : (tables : List TableDef) (bytes name : List ℕ) (width : ℕ) → width < 2 ^ 32 → All (λ table. WidensTable name width table → ⊥) tables → bytes ≡ widen_spelling name width → ReadsWiden tables bytes (Err NoBody)
 none_narrow tables bytes name width fits none is table columns can spelled =
-    let same = one_widen_in name table width columns fits (omega (arith, can.1.4)) (sym is ∙ spelled) in
-    let there = none can.1.1.0 can.1.0 can.1.1.1 in
-    there (subst (λ (t : TableDef). WidensTable name width t) (sym can.1.1.2) (can.0, can.1.2 ∙ sym same.0, subst (λ (w : ℕ). length can.1.0.key_marks < w) (sym same.1) can.1.3, subst (λ (w : ℕ). w ≤ 2000) (sym same.1) can.1.4))
+    let same = one_widen_in name table width columns fits (omega (arith, can.4)) (sym is ∙ spelled) in
+    let there = none can.1.0 can.0 can.1.1 in
+    there (subst (λ (t : TableDef). WidensTable name width t) (sym can.1.2) (can.2 ∙ sym same.0, subst (λ (w : ℕ). length can.0.key_marks < w) (sym same.1) can.3, subst (λ (w : ℕ). w ≤ 2000) (sym same.1) can.4))
 
 pub too_short : (tables : List TableDef) (bytes : List ℕ) → length bytes < 4 → ReadsWiden tables bytes (Err NoBody)
 too_short tables bytes short table width can spelled =

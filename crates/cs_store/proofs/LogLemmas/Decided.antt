@@ -1,11 +1,9 @@
 -- Whether a changeset is defined on a state is decided by its own places: elsewhere nothing changes.
-use Rattle.std.proofs.Common.{◌≡◌, ◌⊎◌, inl, inr, ℕ, ◌<◌, ◌≤◌, Bool, true, false, cond, List, [], ◌∷◌, length, Option, Some, None, refl, sym, subst, arith}
-use Rattle.std.proofs.lemmas.Bool.{cases_lt}
+use Rattle.std.proofs.Common.{◌≡◌, ◌⊎◌, inl, inr, ℕ, Bool, true, false, cond, List, [], ◌∷◌, length, Option, Some, None, refl, sym, subst}
 use Rattle.std.specs.Option.{IsSome}
 use Rattle.std.specs.Str.{bytes_eq}
 use Rattle.std.proofs.lemmas.Slice.Eq.{bytes_eq-Decides}
 use Rattle.cs_value.specs.Decided.{OrNot, both_or_not, same_bytes_or_not, same_marks_or_not}
-use Rattle.cs_value.specs.Catalog.{max_columns}
 use Rattle.cs_value.specs.Key.{Place}
 use Rattle.cs_value.specs.declared.catalog.TableDef.{TableDef}
 use Rattle.cs_change.specs.Action.{action_any, after_any}
@@ -16,9 +14,9 @@ use Rattle.cs_normal.specs.Changes.{Changes as KeyedChanges, change_at}
 use Rattle.cs_normal.specs.Normal.{FitsCatalog, IsOfTable, change_of, changes_in}
 use Rattle.cs_normal.specs.State.{State, left_at}
 use Rattle.cs_normal.specs.declared.normal.TableChanges.{TableChanges}
-use Rattle.cs_normal.specs.NormalFacts.{behind, first_or_behind, here}
-use Rattle.cs_widening.specs.Widening.{CanWiden}
-use Rattle.cs_store.specs.log.Entry.{MayWiden, entry_changes, widening_is_on}
+use Rattle.cs_normal.specs.NormalFacts.{here}
+use Rattle.cs_widening.specs.Laws.{CanWidenOrNot}
+use Rattle.cs_store.specs.log.Entry.{MayWiden, entry_changes}
 use Rattle.cs_store.specs.log.Laws.{DefinedOrNot, NextOrNot}
 use Rattle.cs_store.specs.log.Log.{catalog_at, state_of}
 use Rattle.cs_store.specs.declared.log.body.Body.{Body}
@@ -115,49 +113,15 @@ defined_or_not tables changes state =
       | inr refused ↦ inr (λ each. is_none (left_at changes state refused.0 refused.1) refused.2 (each refused.0 refused.1))
     ])
 
--- ---- a table can be widened so, or not
+-- ---- the next of a log, or not
 
-abbrev WidensTable : ℕ → List ℕ → TableDef → Type 0
-WidensTable width name table = (table.name ≡ name) × (length table.key_marks < width) × (width ≤ max_columns)
+may_or_not : CanWidenOrNot → (tables : List TableDef) (body : Body) → OrNot (MayWiden tables body)
+may_or_not can tables (Changes changes) = inl tt
+may_or_not can tables (Widen table width) = can tables table width
 
-below_or_not : (some other : ℕ) → OrNot (some < other)
-below_or_not some other = elim (cases_lt some other) [ inl below ↦ inl below | inr above ↦ inr (λ below. absurd (omega (arith, below, above))) ]
-
-at_most_or_not : (some other : ℕ) → OrNot (some ≤ other)
-at_most_or_not some other = elim (cases_lt other some) [ inl below ↦ inr (λ above. absurd (omega (arith, below, above))) | inr above ↦ inl above ]
-
-widens_table : (width : ℕ) (name : List ℕ) (table : TableDef) → OrNot (WidensTable width name table)
-widens_table width name table =
-    elim (both_or_not (same_bytes_or_not table.name name) (both_or_not (below_or_not (length table.key_marks) width) (at_most_or_not width max_columns))) [
-      | inl (is, (less, within)) ↦ inl (is, less, within)
-      | inr not ↦ inr (λ it. not (it.0, (it.1, it.2)))
-    ]
-
-can_or_not : (tables : List TableDef) (name : List ℕ) (width : ℕ) → OrNot (CanWiden tables name width)
-can_or_not [] name width = inr (λ can. absurd (omega (arith, can.1.1)))
-can_or_not (table ∷ tables) name width =
-    elim (widens_table width name table) [
-      | inl it ↦ inl (table, here table tables, it.0, it.1, it.2)
-      | inr cannot ↦ elim (can_or_not tables name width) [
-        | inl can ↦ inl (can.0, behind table tables can.0 can.1, can.2, can.3, can.4)
-        | inr none ↦ inr (λ can. elim (first_or_behind table tables can.0 can.1) [
-          | inl is ↦ cannot (subst (λ (t : TableDef). WidensTable width name t) (sym is) (can.2, can.3, can.4))
-          | inr further ↦ none (can.0, further, can.2, can.3, can.4)
-        ])
-      ]
-    ]
-
-is_or_not : (it : Bool) → OrNot (it ≡ true)
-is_or_not true = inl refl
-is_or_not false = inr (λ is. cc)
-
-may_or_not : (tables : List TableDef) (body : Body) → OrNot (MayWiden tables body)
-may_or_not tables (Changes changes) = inl tt
-may_or_not tables (Widen table width) = both_or_not (is_or_not widening_is_on) (can_or_not tables table width)
-
-pub next_or_not : DefinedOrNot → NextOrNot
-next_or_not decided opening log entry normal =
-    elim (both_or_not (decided (catalog_at opening log (length log)) (entry_changes entry) (state_of log)) (may_or_not (catalog_at opening log (length log)) entry.body)) [
+pub next_or_not : DefinedOrNot → CanWidenOrNot → NextOrNot
+next_or_not decided can opening log entry normal =
+    elim (both_or_not (decided (catalog_at opening log (length log)) (entry_changes entry) (state_of log)) (may_or_not can (catalog_at opening log (length log)) entry.body)) [
       | inl (defined, widens) ↦ inl (record { normal = normal; defined = defined; widens = widens })
       | inr not ↦ inr (λ next. not (next.defined, next.widens))
     ]

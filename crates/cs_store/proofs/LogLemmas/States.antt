@@ -1,5 +1,5 @@
 -- The states that a log makes, entry by entry.
-use Rattle.std.proofs.Common.{◌≡◌, ℕ, zero, suc, ◌+◌, ◌≤◌, true, false, List, [], ◌∷◌, ◌++◌, take, drop, length, Option, Some, None, slice_get, refl, sym, ap, subst, map, append_assoc, ◌∙◌, arith}
+use Rattle.std.proofs.Common.{◌≡◌, ℕ, zero, suc, ◌+◌, ◌≤◌, List, [], ◌∷◌, ◌++◌, take, drop, length, Option, Some, None, slice_get, refl, sym, ap, subst, map, append_assoc, ◌∙◌, arith}
 use Rattle.std.specs.Option.{IsSome, unwrap_or}
 use Rattle.std.specs.List.{All, fold}
 use Rattle.std.specs.Str.{bytes_eq}
@@ -16,8 +16,8 @@ use Rattle.cs_normal.specs.Normal.{IsNormalChangeset, change_of}
 use Rattle.cs_normal.specs.State.{State, left_at, AreApplied, IsApplied, IsDefinedOn, AppliedIsNet, IsStateOf, MayStandAt}
 use Rattle.cs_widening.specs.Laws.{WidenedAreTables, WidenedIsState}
 use Rattle.cs_widening.specs.Widening.{widened, widened_place, widened_tables}
-use Rattle.cs_store.specs.log.Entry.{MayWiden, WidensNone, changes_of_body, entry_changes, widening_is_off}
-use Rattle.cs_store.specs.log.Laws.{CatalogNext, CatalogStays, CatalogsAreTables, EntryLeads, LogIsApplied, LogStates, NoneWidens, OneStateAVersion, PlainSlices, Slices}
+use Rattle.cs_store.specs.log.Entry.{MayWiden, WidensNone, changes_of_body, entry_changes}
+use Rattle.cs_store.specs.log.Laws.{CatalogNext, CatalogsAreTables, EntryLeads, LogIsApplied, LogStates, OneStateAVersion, PlainSlices, Slices}
 use Rattle.cs_store.specs.log.Log.{AreMade, IsLog, IsMade, IsNextEntry, after_body, after_entry, catalog_after, catalog_at, catalog_next, catalog_of, empty_state, entries_between, state_of, tables_at}
 use Rattle.cs_store.specs.declared.log.body.Body.{Body}
 use Rattle.cs_store.specs.declared.log.body.Body.TheVariants.{Changes, Widen}
@@ -212,24 +212,3 @@ entry_leads opening log version entry before end there same made name key =
     let next : tables_at log (version + 1) ≡ after_entry (tables_at log version) entry = ap state_of (take_next log version entry there) ∙ one_more (take version log) entry in
     sym (leaves_same (catalog_at opening log version) entry.body before (tables_at log version) end (λ n k. sym (same n k)) made name key)
     ∙ sym (ap (λ (s : State). s name key) next)
-
--- ---- as long as none may be widened
-
-pub none_widens : NoneWidens
-none_widens tables (Changes changes) may = tt
-none_widens tables (Widen table width) may = let is : false ≡ true = sym widening_is_off ∙ may.0 in absurd (cc)
-
-stays : (tables : List TableDef) (body : Body) → WidensNone body → catalog_after tables body ≡ tables
-stays tables (Changes changes) none = refl
-stays tables (Widen table width) none = absurd none
-
-stays_along : NoneWidens → (opening : List TableDef) (before rest : List LogEntry) → AreNext opening before rest → catalog_of opening before ≡ opening → catalog_of opening (before ++ rest) ≡ opening
-stays_along none opening before [] next is = ap (catalog_of opening) (append-nil before) ∙ is
-stays_along none opening before (entry ∷ rest) next is =
-    let one : catalog_of opening (before ++ entry ∷ []) ≡ opening =
-    one_more_catalog opening before entry ∙ stays (catalog_of opening before) entry.body (none (catalog_of opening before) entry.body (may_next opening before entry next.0)) ∙ is in
-    ap (catalog_of opening) (sym (append_assoc before (entry ∷ []) rest)) ∙ stays_along none opening (before ++ entry ∷ []) rest next.1 one
-
-pub catalog_stays : NoneWidens → CatalogStays
-catalog_stays none opening log version each =
-    stays_along none opening [] (take version log) (are_next opening [] (take version log) (first_entries opening log version each)) refl

@@ -1,5 +1,5 @@
 -- An entry's changes, the table that it widens, and how what it does is spelled.
-use Rattle.std.specs.Prelude.{◌≡◌, ℕ, Bool, true, false, refl, List, [], ◌++◌}
+use Rattle.std.specs.Prelude.{ℕ, List, [], ◌++◌}
 use Rattle.std.specs.Int.{to_be_bytes, w32}
 use Rattle.cs_value.specs.declared.catalog.TableDef.{TableDef}
 use Rattle.cs_normal.specs.Normal.{normal_spelling}
@@ -17,18 +17,10 @@ changes_of_body (Widen table width) = []
 abbrev pub entry_changes : LogEntry → List TableChanges
 entry_changes entry = changes_of_body entry.body
 
--- whether an entry may widen a table. None may yet: what stands above does not take one
-pub widening_is_on : Bool
-widening_is_on = false
-
-pub widening_is_off : widening_is_on ≡ false
-unfolding widening_is_on
-widening_is_off = refl
-
 -- where it widens a table, that table can be widened so
 abbrev pub MayWiden : List TableDef → Body → Type 0
 MayWiden tables (Changes changes) = Unit {0}
-MayWiden tables (Widen table width) = (widening_is_on ≡ true) × CanWiden tables table width
+MayWiden tables (Widen table width) = CanWiden tables table width
 
 -- a body that leaves the catalog as it is
 abbrev pub WidensNone : Body → Type 0

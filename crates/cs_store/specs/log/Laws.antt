@@ -136,12 +136,3 @@ OneStoredLog =
     → IsLog opening other
     → ((version : ℕ) → option_map stored_entry (slice_get some version) ≡ option_map stored_entry (slice_get other version))
     → some ≡ other
-
--- as long as none may be widened, no entry of a log widens a table, and its catalog stays
-abbrev pub NoneWidens : Type 0
-NoneWidens = (tables : List TableDef) (body : Body) → MayWiden tables body → WidensNone body
-
-abbrev pub CatalogStays : Type 0
-CatalogStays =
-    (opening : List TableDef) (log : List LogEntry) (version : ℕ) → IsLog opening log
-    → catalog_at opening log version ≡ opening

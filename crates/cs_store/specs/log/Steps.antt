@@ -12,7 +12,7 @@ use Rattle.cs_normal.specs.keyed.Changes.{AreNormal, Changes, IsEntry}
 use Rattle.cs_normal.specs.keyed.NormalForm.{change_bytes, has_key}
 use Rattle.cs_normal.specs.Normal.{FitsCatalog, IsNormalTable, normal_spelling, table_spelling}
 use Rattle.cs_normal.specs.declared.normal.TableChanges.{TableChanges}
-use Rattle.cs_store.specs.log.Entry.{MayWiden, widen_spelling, widening_is_on}
+use Rattle.cs_store.specs.log.Entry.{MayWiden, widen_spelling}
 use Rattle.cs_store.specs.log.Stored.{AreChangesOf, FitsBody, stored_body}
 use Rattle.cs_store.specs.declared.log.body.Body.{Body}
 use Rattle.cs_store.specs.declared.log.body.Body.TheVariants.{Changes as WithChanges, Widen}
@@ -79,7 +79,7 @@ StoresChanges tables bytes =
 -- the table has the name and may be widened to so many columns
 abbrev pub WidensTable : List ℕ → ℕ → TableDef → Type 0
 WidensTable name width table =
-    (widening_is_on ≡ true) × (table.name ≡ name) × (length table.key_marks < width) × (width ≤ max_columns)
+    (table.name ≡ name) × (length table.key_marks < width) × (width ≤ max_columns)
 
 -- what reading a table and its columns gives
 abbrev pub ReadsWiden : List TableDef → List ℕ → Result Body BodyFault → Type 0

@@ -4,7 +4,6 @@ ghost use Rattle.std.specs.Prelude.{◌≡◌, ◌⊎◌, ◌<◌, ◌↔◌, �
 ghost use Rattle.cs_normal.specs.Normal.{normal_spelling};
 ghost use Rattle.cs_normal.specs.declared.normal.TableChanges.{TableChanges};
 ghost use Rattle.cs_store.specs.log.Entry.{widen_spelling};
-ghost use Rattle.cs_store.specs.log.Entry.{widening_is_on as MayBeWidened};
 ghost use Rattle.cs_store.specs.log.Steps.{ReadsWiden, WidensTable};
 ghost use Rattle.cs_store.specs.log.Stored.{AreChangesOf, FitsBody, ReadsBody, ReadsChanges, stored_body};
 ghost use Rattle.cs_store.specs.declared.log.body.Body.{Body};
@@ -167,13 +166,6 @@ pub fn read_changes(alloc: Global, catalog: &Catalog, bytes: &[u8]) -> Result<No
     Ok(changes)
 }
 
-/// Whether an entry may widen a table. None may yet: what stands above does not take one.
-pub fn widening_is_on() -> bool
-    ensures { result ≡ MayBeWidened }
-{
-    false
-}
-
 /// The number in the first four bytes, the high byte first, and the rest.
 fn split_width(bytes: &[u8]) -> Option<(u32, &[u8])>
     ensures { MatchOption result (length bytes.now < 4) (λ split. bytes.now ≡ widen_spelling split.1.now split.0) }
@@ -187,10 +179,8 @@ fn find_narrow(tables: &[TableDef], name: &[u8], width: usize) -> Option<usize>
     ensures { MatchOption result (All (λ table. WidensTable name.now width table → ⊥) tables.now)
         (λ place. (place < length tables.now) × HoldsAt (WidensTable name.now width) tables.now place) }
 {
-    let is_on = widening_is_on();
     tables.iter().position(|table| {
-        is_on
-            && table.name.as_str().as_bytes() == name
+        table.name.as_str().as_bytes() == name
             && table.key_marks.as_slice().len() < width
             && width <= MAX_COLUMNS
     })

@@ -1,14 +1,14 @@
 //! The laws of logs, each the contract of a function that does nothing.
 
 ghost use Rattle.std.specs.Prelude.{◌≡◌};
-ghost use Rattle.cs_store.specs.log.Laws.{AppendedIsLog, CatalogNext, CatalogStays, CatalogsAreTables, DefinedOrNot, EmptyIsLog, EntryLeads, FrontIsLog, LogIsApplied, LogStates, LongerLog, NextOrNot, NoneWidens, OneBody, OneStateAVersion, OneStoredLog, PlainSlices, Slices};
+ghost use Rattle.cs_store.specs.log.Laws.{AppendedIsLog, CatalogNext, CatalogsAreTables, DefinedOrNot, EmptyIsLog, EntryLeads, FrontIsLog, LogIsApplied, LogStates, LongerLog, NextOrNot, OneBody, OneStateAVersion, OneStoredLog, PlainSlices, Slices};
 ghost use Rattle.cs_store.specs.log.Widens.{CatalogByWidens, WidensGrow};
 ghost use Rattle.cs_store.specs.declared.log.entry.TheConstants.{MAX_CHANGESET, MAX_ENTRIES};
 
 use cs_changeset::laws::changesets;
 use cs_normal::laws::{applied_is_net, normal_is_taken};
 use cs_normalising::laws::{normal_again, one_normal_form};
-use cs_widening::laws::{widened_are_tables, widened_is_state};
+use cs_widening::laws::{can_widen_or_not, widened_are_tables, widened_is_state};
 
 /// How many bytes an entry's changeset may have.
 pub fn most_bytes()
@@ -90,6 +90,7 @@ pub fn next_or_not()
     ensures { NextOrNot }
 {
     defined_or_not();
+    can_widen_or_not();
 }
 
 /// No two bodies of a catalog's tables are stored as the same bytes.
@@ -128,16 +129,4 @@ pub fn one_stored_log()
 {
     one_body();
     catalogs_are_tables();
-}
-
-/// As long as none may be widened, no body of an entry widens a table.
-pub fn none_widens()
-    ensures { NoneWidens }
-{}
-
-/// As long as none may be widened, the catalog of a log is at each version the one that it opened with.
-pub fn catalog_stays()
-    ensures { CatalogStays }
-{
-    none_widens();
 }

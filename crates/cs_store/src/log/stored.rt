@@ -1,5 +1,5 @@
-//! Whether bytes are those that a body with changes is stored as. Nearly all are, and the bytes show it where they stand. The groups are the
-//! catalog's tables in order, and the changes of each are in normal form, in the order of their keys.
+//! Whether bytes are those that a body with changes is stored as. Nearly all are, and the bytes show it where they stand. The groups are
+//! the catalog's tables in order, and the changes of each are in normal form, in the order of their keys.
 
 ghost use Rattle.std.specs.Prelude.{◌≡◌, ◌↔◌, IfOk, IfSome, IsTrue, map};
 ghost use Rattle.cs_change.specs.Spelling.{flag_byte, marks_of};
@@ -189,7 +189,11 @@ fn are_changes(alloc: Global, catalog: &Catalog, bytes: &[u8]) -> Result<bool, M
 }
 
 /// Whether the bytes are seen to be those that a body with changes is stored as.
-pub(crate) fn is_seen(alloc: Global, catalog: &Catalog, bytes: &[u8]) -> Result<bool, Memory>
+pub(crate) fn is_plainly_stored(
+    alloc: Global,
+    catalog: &Catalog,
+    bytes: &[u8],
+) -> Result<bool, Memory>
     ensures { IfOk result (λ is. IsTrue is → StoresChanges catalog.now bytes.now) }
 {
     let Some((kind, changeset)) = bytes.split_first() else {

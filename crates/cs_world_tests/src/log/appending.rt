@@ -20,15 +20,15 @@ fn is_kept(store: &mut Store) -> bool {
 
 /// Whether an entry behind the INSERT conflicts so, and changes nothing.
 fn conflicts(alloc: Global, does: &'static [u8], kind: Kind) -> Option<bool> {
-    let (catalog, mut store) = filled(alloc)?;
-    let told = appends(alloc, &mut store, &catalog, (2, does))?;
+    let (mut catalogs, mut store) = filled(alloc)?;
+    let told = appends(alloc, &mut store, &mut catalogs, (2, does))?;
     Some(told == Told::Conflict(kind) && is_kept(&mut store))
 }
 
 /// Whether an entry without a change is appended behind the INSERT.
 fn takes_none(alloc: Global) -> Option<bool> {
-    let (catalog, mut store) = filled(alloc)?;
-    let told = appends(alloc, &mut store, &catalog, (2, NO_CHANGE))?;
+    let (mut catalogs, mut store) = filled(alloc)?;
+    let told = appends(alloc, &mut store, &mut catalogs, (2, NO_CHANGE))?;
     Some(told == Told::Done && has(&mut store, 2, Some(ROW_1)) == Ok(true))
 }
 

@@ -1,8 +1,7 @@
 //! A store that is opened as a hub's. It is laid out where it held nothing, or is as it was left, another's, or damaged in each of
 //! its parts.
 
-use crate::given::{INSERT, KEY, ROW_1, bare, opened};
-use cs_hub::log_opening::open_log;
+use crate::given::{INSERT, KEY, ROW_1, bare, opened, opens};
 use cs_opening::OpenFault;
 use cs_store::{MetaName, RowStore, StoreFault, Written};
 use cs_store_cases::{Spelled, commit_of};
@@ -18,8 +17,8 @@ const LAID_OUT: Written = Written {
 
 /// Whether a store that was laid out has the tables' value and nothing but that, and opens again so.
 fn opens_again(alloc: Global) -> Option<bool> {
-    let (catalog, mut store) = opened(alloc)?;
-    let again = open_log(alloc, &mut store, &catalog);
+    let (catalogs, mut store) = opened(alloc)?;
+    let again = opens(alloc, &mut store, catalogs.opening());
     let tables = store.meta(MetaName::Catalog).ok()??;
     Some(
         again == Ok(0)
@@ -31,10 +30,10 @@ fn opens_again(alloc: Global) -> Option<bool> {
 
 /// What is told of a store that was laid out, and in which this was written then. It is only read.
 fn told_with(alloc: Global, written: &Spelled<'_>) -> Option<OpenFault> {
-    let (catalog, mut store) = opened(alloc)?;
+    let (catalogs, mut store) = opened(alloc)?;
     commit_of(alloc, &mut store, written).ok()?;
     let before = store.written();
-    let told = open_log(alloc, &mut store, &catalog);
+    let told = opens(alloc, &mut store, catalogs.opening());
     if store.written() != before || store.failures() != 0 {
         return None;
     }

@@ -4,6 +4,7 @@ use crate::given::{
     DELETE, INSERT, NO_CHANGE, Push, Store, Told, UPDATE, appends, entry_of, opened,
 };
 use cs_hub::log_reading::{entries_at, entries_told, has_entry};
+use cs_hub::log_store::Catalogs;
 use cs_store::log::LogEntry;
 use cs_store::{RowStore, StoreFault};
 use cs_store_cases::commit_of;
@@ -14,21 +15,21 @@ use std::alloc::Global;
 const PUSHES: [Push; 3] = [(1, INSERT), (5, UPDATE), (2, DELETE)];
 
 /// The tables of a hub, and its store, to which they were appended.
-fn filled(alloc: Global) -> Option<(Catalog, Store)> {
-    let (catalog, mut store) = opened(alloc)?;
+fn filled(alloc: Global) -> Option<(Catalogs, Store)> {
+    let (mut catalogs, mut store) = opened(alloc)?;
     for push in PUSHES {
-        if appends(alloc, &mut store, &catalog, push) != Some(Told::Done) {
+        if appends(alloc, &mut store, &mut catalogs, push) != Some(Told::Done) {
             return None;
         }
     }
-    Some((catalog, store))
+    Some((catalogs, store))
 }
 
 /// Whether the log has this entry at a version.
 fn has(alloc: Global, version: u32, push: Push) -> Option<bool> {
-    let (catalog, mut store) = filled(alloc)?;
-    let entry = entry_of(alloc, &catalog, push)?;
-    has_entry(alloc, &mut store, &catalog, version, &entry).ok()
+    let (catalogs, mut store) = filled(alloc)?;
+    let entry = entry_of(alloc, catalogs.present(), push)?;
+    has_entry(alloc, &mut store, &catalogs, version, &entry).ok()
 }
 
 /// One at its version, one of no changes, one at the next version of the log, and at the last that there can be.
@@ -62,9 +63,9 @@ fn are_of(alloc: Global, catalog: &Catalog, entries: &[LogEntry], pushes: &[Push
 
 /// Whether so many entries are read, those of these pushes.
 fn reads(alloc: Global, first: u16, count: u16, pushes: &[Push]) -> Option<bool> {
-    let (catalog, mut store) = filled(alloc)?;
-    let entries = entries_at(alloc, &mut store, &catalog, first as u32, count as u32).ok()?;
-    let are = are_of(alloc, &catalog, entries.as_slice(), pushes)?;
+    let (catalogs, mut store) = filled(alloc)?;
+    let entries = entries_at(alloc, &mut store, &catalogs, first as u32, count as u32).ok()?;
+    let are = are_of(alloc, catalogs.present(), entries.as_slice(), pushes)?;
     Some(are && store.failures() == 0)
 }
 
@@ -84,38 +85,38 @@ fn entries_are_read(rt: HostRuntime) {
 }
 
 /// Whether entries that aren't there are told to the store, by each of the two.
-fn misreads(alloc: Global, store: &mut Store, catalog: &Catalog, first: u16, count: u16) -> bool {
-    let read = entries_at(alloc, store, catalog, first as u32, count as u32);
+fn misreads(alloc: Global, store: &mut Store, catalogs: &Catalogs, first: u16, count: u16) -> bool {
+    let read = entries_at(alloc, store, catalogs, first as u32, count as u32);
     let once = store.failures() == 1;
-    let told = entries_told(alloc, store, catalog, first as u32, count as u32);
+    let told = entries_told(alloc, store, catalogs.present(), first as u32, count as u32);
     once && store.failures() == 2
         && matches!(read, Err(StoreFault::Device))
         && matches!(told, Err(StoreFault::Device))
 }
 
 /// The same store, with an entry behind the three that is stored with this body.
-fn filled_with(alloc: Global, body: &[u8]) -> Option<(Catalog, Store)> {
-    let (catalog, mut store) = filled(alloc)?;
+fn filled_with(alloc: Global, body: &[u8]) -> Option<(Catalogs, Store)> {
+    let (catalogs, mut store) = filled(alloc)?;
     let entry = Some((7, 3, body));
     commit_of(alloc, &mut store, &(&[], &[], &[], entry)).ok()?;
-    Some((catalog, store))
+    Some((catalogs, store))
 }
 
 fn are_past_the_end(alloc: Global, first: u16, count: u16) -> Option<bool> {
-    let (catalog, mut store) = filled(alloc)?;
-    Some(misreads(alloc, &mut store, &catalog, first, count) && store.inner.failures() == 2)
+    let (catalogs, mut store) = filled(alloc)?;
+    Some(misreads(alloc, &mut store, &catalogs, first, count) && store.inner.failures() == 2)
 }
 
 /// Whether an entry that is stored without a body can neither be read nor told.
 fn is_untold(alloc: Global) -> Option<bool> {
-    let (catalog, mut store) = filled_with(alloc, &[])?;
-    Some(misreads(alloc, &mut store, &catalog, 2, 2))
+    let (catalogs, mut store) = filled_with(alloc, &[])?;
+    Some(misreads(alloc, &mut store, &catalogs, 2, 2))
 }
 
 /// Whether an entry that is stored with this body isn't read, and that is told to the store.
 fn is_unread(alloc: Global, body: &[u8]) -> Option<bool> {
-    let (catalog, mut store) = filled_with(alloc, body)?;
-    let read = entries_at(alloc, &mut store, &catalog, 2, 2);
+    let (catalogs, mut store) = filled_with(alloc, body)?;
+    let read = entries_at(alloc, &mut store, &catalogs, 2, 2);
     Some(matches!(read, Err(StoreFault::Device)) && store.failures() == 1)
 }
 

@@ -1,7 +1,9 @@
 //! Calls that the device refuses, one after another: each is told, leaves everything, and is made when it comes again.
 
-use crate::given::{ROW_1, ROW_2, Store, Told, UPDATE, appends, bare, filled, has, refusing};
-use cs_hub::log_opening::open_log;
+use crate::given::{
+    ROW_1, ROW_2, Store, Told, UPDATE, appends, bare, filled, has, opens, refusing,
+};
+use cs_hub::log_store::Catalogs;
 use cs_opening::OpenFault;
 use cs_store::{MetaName, RowStore};
 use cs_store_cases::catalog;
@@ -9,20 +11,20 @@ use cs_value::Catalog;
 use std::alloc::Global;
 
 /// The tables of a hub, and its store, which has the entry of (1, 'v1') and refuses the call behind so many.
-fn filled_for(alloc: Global, passes: u64) -> Option<(Catalog, Store)> {
-    let (catalog, store) = filled(alloc)?;
-    Some((catalog, refusing(store, passes)))
+fn filled_for(alloc: Global, passes: u64) -> Option<(Catalogs, Store)> {
+    let (catalogs, store) = filled(alloc)?;
+    Some((catalogs, refusing(store, passes)))
 }
 
 /// Whether an append is refused where so many calls pass, changes nothing, and is made then.
 fn is_appended_again(alloc: Global, passes: u64) -> Option<bool> {
-    let (catalog, mut store) = filled_for(alloc, passes)?;
+    let (mut catalogs, mut store) = filled_for(alloc, passes)?;
     let before = store.written();
-    let told = appends(alloc, &mut store, &catalog, (2, UPDATE))?;
+    let told = appends(alloc, &mut store, &mut catalogs, (2, UPDATE))?;
     let kept = store.failures() == 1
         && store.written() == before
         && has(&mut store, 1, Some(ROW_1)) == Ok(true);
-    let again = appends(alloc, &mut store, &catalog, (2, UPDATE))?;
+    let again = appends(alloc, &mut store, &mut catalogs, (2, UPDATE))?;
     Some(
         told == Told::Device
             && kept
@@ -33,8 +35,8 @@ fn is_appended_again(alloc: Global, passes: u64) -> Option<bool> {
 
 /// Whether no call of an append is refused where so many pass.
 fn is_appended_at_once(alloc: Global, passes: u64) -> Option<bool> {
-    let (catalog, mut store) = filled_for(alloc, passes)?;
-    let told = appends(alloc, &mut store, &catalog, (2, UPDATE))?;
+    let (mut catalogs, mut store) = filled_for(alloc, passes)?;
+    let told = appends(alloc, &mut store, &mut catalogs, (2, UPDATE))?;
     Some(told == Told::Done && store.failures() == 0)
 }
 
@@ -51,43 +53,43 @@ fn an_append_that_the_device_refuses_changes_nothing(rt: HostRuntime) {
 /// Whether an opening is refused, writes nothing, and the same opening then gives this count.
 fn is_opened_again(alloc: Global, catalog: &Catalog, store: &mut Store, count: u32) -> bool {
     let before = store.written();
-    open_log(alloc, store, catalog) == Err(OpenFault::Device)
+    opens(alloc, store, catalog) == Err(OpenFault::Device)
         && store.failures() == 1
         && store.written() == before
-        && open_log(alloc, store, catalog) == Ok(count)
+        && opens(alloc, store, catalog) == Ok(count)
 }
 
 /// Whether a store that holds nothing is refused where so many calls pass, holds nothing still, and is laid out then.
 fn is_laid_out_again(alloc: Global, passes: u64) -> Option<bool> {
     let catalog = catalog(alloc)?;
     let mut store = bare(alloc, passes);
-    let told = open_log(alloc, &mut store, &catalog);
+    let told = opens(alloc, &mut store, &catalog);
     let none = store.meta(MetaName::Catalog).ok()?.is_none();
     Some(
         told == Err(OpenFault::Device)
             && none
             && store.failures() == 1
-            && open_log(alloc, &mut store, &catalog) == Ok(0),
+            && opens(alloc, &mut store, &catalog) == Ok(0),
     )
 }
 
 /// Whether the store with one entry is refused so, and is as it was.
 fn is_read_again(alloc: Global, passes: u64) -> Option<bool> {
-    let (catalog, mut store) = filled_for(alloc, passes)?;
+    let (catalogs, mut store) = filled_for(alloc, passes)?;
     Some(
-        is_opened_again(alloc, &catalog, &mut store, 1)
+        is_opened_again(alloc, catalogs.opening(), &mut store, 1)
             && has(&mut store, 1, Some(ROW_1)) == Ok(true),
     )
 }
 
 /// Whether no call is refused where so many pass: of a store that holds nothing, and of one with one entry.
 fn are_opened_at_once(alloc: Global, bare_passes: u64, passes: u64) -> Option<bool> {
-    let (catalog, mut store) = filled_for(alloc, passes)?;
+    let (catalogs, mut store) = filled_for(alloc, passes)?;
     let mut first = bare(alloc, bare_passes);
     Some(
-        open_log(alloc, &mut first, &catalog) == Ok(0)
+        opens(alloc, &mut first, catalogs.opening()) == Ok(0)
             && first.failures() == 0
-            && open_log(alloc, &mut store, &catalog) == Ok(1)
+            && opens(alloc, &mut store, catalogs.opening()) == Ok(1)
             && store.failures() == 0,
     )
 }

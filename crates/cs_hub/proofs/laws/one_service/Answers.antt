@@ -11,4 +11,5 @@ returns c =
       request = c.one_request.ensures;
       answer = c.one_answer.ensures;
       caught = c.one_catch.ensures;
+      widens = c.widen_answers.ensures.one;
     })

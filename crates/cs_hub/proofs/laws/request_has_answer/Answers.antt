@@ -10,5 +10,6 @@ returns c =
       read = c.changesets.ensures.found;
       decided = c.form_or_unfit.ensures;
       catalogs = c.catalogs_are_tables.ensures;
-      stays = c.catalog_stays.ensures;
+      next = c.catalog_next.ensures;
+      widens = c.widen_answers.ensures.some;
     })

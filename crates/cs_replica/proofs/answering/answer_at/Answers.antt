@@ -7,29 +7,29 @@ use Rattle.cs_replica.proofs.answering.answer_at.Goals as goal
 
 pub returns-in-Ok-Taken-clause-writes : goal.returns-in-Ok-Taken-clause-writes
 returns-in-Ok-Taken-clause-writes g c =
-    entries_write g.P.Picker.picks g.S.RowStore c.args.catalog.now c.args.answer.now c.in-Entries.first c.in-Entries.entries c.in-Entries.is c.args.position.now c.args.store.now c.take_entries.new.store c.args.picker.now
+    entries_write g.P.Picker.picks g.S.RowStore c.args.catalog.now c.take_entries.new.catalog c.args.answer.now c.in-Entries.first c.in-Entries.entries c.in-Entries.is c.args.position.now c.args.store.now c.take_entries.new.store c.args.picker.now
     (Unit {0}) ⊥ (ShowsSomeAt c.args.catalog.now c.args.position.now (g.S.RowStore.contents c.args.store.now)) c.take_entries.new.position
     (rw c.in-Ok-Taken.field-0-is at c.in-Ok-Taken.ensures.writes)
 
 pub returns-in-Ok-Stopped-clause-told : goal.returns-in-Ok-Stopped-clause-told
 returns-in-Ok-Stopped-clause-told g c = λ honest before shows.
-    entries_tell g.P.Picker.picks g.S.RowStore c.args.catalog.now c.args.answer.now c.in-Entries.first c.in-Entries.entries c.in-Entries.is c.args.position.now c.args.store.now c.take_entries.new.store c.args.picker.now
+    entries_tell g.P.Picker.picks g.S.RowStore c.args.catalog.now c.take_entries.new.catalog c.args.answer.now c.in-Entries.first c.in-Entries.entries c.in-Entries.is c.args.position.now c.args.store.now c.take_entries.new.store c.args.picker.now
     (Ok (Stopped c.in-Ok-Stopped.count)) before c.take_entries.new.position c.take_entries.new.picker ((rw c.in-Ok-Stopped.field-0-is at c.in-Ok-Stopped.ensures.pulls) honest before shows)
 
 pub returns-in-Ok-Stopped-clause-writes : goal.returns-in-Ok-Stopped-clause-writes
 returns-in-Ok-Stopped-clause-writes g c =
-    entries_write g.P.Picker.picks g.S.RowStore c.args.catalog.now c.args.answer.now c.in-Entries.first c.in-Entries.entries c.in-Entries.is c.args.position.now c.args.store.now c.take_entries.new.store c.args.picker.now
+    entries_write g.P.Picker.picks g.S.RowStore c.args.catalog.now c.take_entries.new.catalog c.args.answer.now c.in-Entries.first c.in-Entries.entries c.in-Entries.is c.args.position.now c.args.store.now c.take_entries.new.store c.args.picker.now
     ⊥ ⊥ (ShowsSomeAt c.args.catalog.now c.args.position.now (g.S.RowStore.contents c.args.store.now)) c.take_entries.new.position
     (rw c.in-Ok-Stopped.field-0-is at c.in-Ok-Stopped.ensures.writes)
 
 pub returns-in-Err-clause-told : goal.returns-in-Err-clause-told
 returns-in-Err-clause-told g c = λ honest before shows.
-    entries_tell g.P.Picker.picks g.S.RowStore c.args.catalog.now c.args.answer.now c.in-Entries.first c.in-Entries.entries c.in-Entries.is c.args.position.now c.args.store.now c.take_entries.new.store c.args.picker.now
+    entries_tell g.P.Picker.picks g.S.RowStore c.args.catalog.now c.take_entries.new.catalog c.args.answer.now c.in-Entries.first c.in-Entries.entries c.in-Entries.is c.args.position.now c.args.store.now c.take_entries.new.store c.args.picker.now
     (Err c.in-Err.fault) before c.take_entries.new.position c.take_entries.new.picker (c.in-Err.ensures.pulls honest before shows)
 
 pub returns-in-Err-clause-writes : goal.returns-in-Err-clause-writes
 returns-in-Err-clause-writes g c =
-    entries_write g.P.Picker.picks g.S.RowStore c.args.catalog.now c.args.answer.now c.in-Entries.first c.in-Entries.entries c.in-Entries.is c.args.position.now c.args.store.now c.take_entries.new.store c.args.picker.now
+    entries_write g.P.Picker.picks g.S.RowStore c.args.catalog.now c.take_entries.new.catalog c.args.answer.now c.in-Entries.first c.in-Entries.entries c.in-Entries.is c.args.position.now c.args.store.now c.take_entries.new.store c.args.picker.now
     ⊥ (IsDeviceFault c.in-Err.fault) (ShowsSomeAt c.args.catalog.now c.args.position.now (g.S.RowStore.contents c.args.store.now)) c.take_entries.new.position
     c.in-Err.ensures.writes
 

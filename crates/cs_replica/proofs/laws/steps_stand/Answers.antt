@@ -5,7 +5,7 @@ pub returns-clause-kept : goal.returns-clause-kept
 returns-clause-kept c = kept_stands
 
 pub returns-clause-entry : goal.returns-clause-entry
-returns-clause-entry c = entry_stands c.plain_slices.ensures c.none_widens.ensures
+returns-clause-entry c = entry_stands c.entry_leads.ensures
 
 pub returns-clause-lead : goal.returns-clause-lead
 returns-clause-lead c = lead_stands

@@ -1,7 +1,6 @@
-use Rattle.std.proofs.Common.{◌≡◌, ◌<◌, ◌++◌, List, length, get_or, ap, subst, sym, arith}
-use Rattle.std.specs.Prelude.{string_bytes}
+use Rattle.std.proofs.Common.{◌≡◌, ◌<◌, ◌++◌, List, length, get_or, ap, subst, arith}
+use Rattle.std.specs.Prelude.{Some, slice_get, string_bytes}
 use Rattle.cs_value.specs.declared.catalog.TableDef.{TableDef}
-use Rattle.cs_world.specs.Reads.{AreRowsIn}
 use Rattle.cs_node_lines.specs.told.Dump.{rows_text}
 use Rattle.cs_script.proofs.DumpLemmas.{puts_rows_at}
 use Rattle.cs_script.proofs.dumping.push_tables.Goals as goal
@@ -19,6 +18,6 @@ loop-number-preserved c =
       stands = λ standing stood. c.in_ok-rows.ensures.stands standing (c.loop-number.invariant.stands standing stood);
       put = λ standing state stood is same.
           let are = c.in_ok-rows.ensures.listed standing state (c.loop-number.invariant.stands standing stood) is in
-          let here_are = subst (λ (ts : List TableDef). AreRowsIn ts state at c.in_ok-rows.rows.items) (sym same) are in
-          puts_rows_at tables at table state _ _ _ c.in_ok-rows.rows.items less here (c.loop-number.invariant.put standing state stood is same) here_are written;
+          puts_rows_at tables at table state _ _ _ c.in_ok-rows.rows.items less here (c.loop-number.invariant.put standing state stood is same)
+          (λ def there. are def (subst (λ (ts : List TableDef). slice_get ts at ≡ Some def) same there)) written;
     }

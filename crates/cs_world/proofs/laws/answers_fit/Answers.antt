@@ -13,8 +13,11 @@ returns c =
       answer = c.one_told_answer.ensures;
       read = c.told_are_read.ensures;
       appended = c.appended_is_log.ensures;
-      stays = c.catalog_stays.ensures;
+      longer = c.longer_log.ensures;
+      catalogs = c.catalogs_are_tables.ensures;
       caught = c.caught_are_others.ensures.told;
       caught_short = c.caught_are_others.ensures.short;
+      origin = c.widen_is_entry.ensures.origin;
+      widen_entry = c.widen_is_entry.ensures.entry;
       most = c.most_bytes.ensures;
     })

@@ -11,5 +11,7 @@ returns c =
       again = c.normal_again.ensures;
       answer = c.answer_has_result_by.ensures;
       catch = c.catch_has_answer.ensures;
-      stays = c.catalog_stays.ensures;
+      widen = c.widen_answers.ensures.some;
+      catalogs = c.catalogs_are_tables.ensures;
+      next = c.catalog_next.ensures;
     })

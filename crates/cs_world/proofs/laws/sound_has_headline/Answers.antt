@@ -8,5 +8,4 @@ returns c =
       rest = c.equal_at_rest.ensures;
       key = c.one_key_stands.ensures;
       net = c.net_takes.ensures;
-      stays = c.catalog_stays.ensures;
     })

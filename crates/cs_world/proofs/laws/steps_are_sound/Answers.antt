@@ -5,6 +5,7 @@ pub returns : goal.returns
 returns c =
     steps_are_sound (record {
       longer = c.longer_log.ensures;
+      catalogs = c.catalogs_are_tables.ensures;
       stands = c.stands_longer.ensures;
       others = c.caught_are_others.ensures.grows;
       edit = c.edit_stands.ensures;
@@ -22,9 +23,12 @@ returns c =
         answer = c.one_told_answer.ensures;
         read = c.told_are_read.ensures;
         appended = c.appended_is_log.ensures;
-        stays = c.catalog_stays.ensures;
+        longer = c.longer_log.ensures;
+        catalogs = c.catalogs_are_tables.ensures;
         caught = c.caught_are_others.ensures.told;
         caught_short = c.caught_are_others.ensures.short;
+        origin = c.widen_is_entry.ensures.origin;
+        widen_entry = c.widen_is_entry.ensures.entry;
         most = c.most_bytes.ensures;
       };
       answers = record {
@@ -36,9 +40,8 @@ returns c =
         taken = c.normal_is_taken.ensures;
         again = c.normal_again.ensures;
         body = c.one_body.ensures;
-        none = c.none_widens.ensures;
-        stays = c.catalog_stays.ensures;
-        front = c.front_is_log.ensures;
+        catalogs = c.catalogs_are_tables.ensures;
+        next = c.catalog_next.ensures;
         rows = c.one_contents.ensures.log_rows;
         lead = c.steps_stand.ensures.lead;
         consolidated = c.consolidated_leads.ensures;

@@ -12,4 +12,5 @@ returns g c =
       stop = c.one_stop_taking.ensures;
       no_stop = c.no_stop_where_taken.ensures;
       bad = c.bad_is_neither.ensures;
+      wide_tables = c.widened_are_tables.ensures;
     })

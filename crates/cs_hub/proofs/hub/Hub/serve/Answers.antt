@@ -27,7 +27,7 @@ returns-clause-served g c =
     IfOk-weaker c.refuse.result _ _
     (λ answer is. failed g.S.RowStore MAX_ENTRIES c.args.request.now c.args.self.now c.judge.new.self c.append_judged.new.self c.judge.ensures.reads c.in-Append.entry c.in-Append.reply
     (λ honest log shows. replies _ (min MAX_ENTRIES MAX_ENTRIES) MAX_ENTRIES _ log c.args.request.now _ c.in-Append.entry c.in-Append.batch c.in-Append.reply (omega arith) c.in-Append.is (c.in_ok-answer.ensures.judged honest log shows))
-    c.in-Err-Device.field-0 answer.items c.in-Err-Device.field-0-is c.append_judged.ensures.catalog c.in-Err-Device.ensures.kept c.in-Err-Device.ensures.writes is)
+    c.in-Err-Device.field-0 answer.items c.in-Err-Device.field-0-is c.append_judged.ensures.catalog c.in-Err-Device.ensures.kept c.in-Err-Device.ensures.widens c.in-Err-Device.ensures.writes is)
     c.refuse.ensures
 
 pub returns-clause-store : goal.returns-clause-store

@@ -31,6 +31,6 @@ returns-clause-delivers g c =
     let made = c.seen_line.ensures in (
       made.0,
       made.2,
-      rw (← c.self.view_is) (goes_served g.S.RowStore c.steps_are_sound.ensures (omega (arith, c.most_entries.ensures)) c.answers_fit.ensures c.seen_is_heard.ensures c.one_told_answer.ensures
-          c.self.inside.hub c.serve.new.self c.self.inside.replica c.seen_line.new.replica (asked_by_owned c.args.request.now) c.args.wishes.now c.encode.new.out.items c.as_slice-2.result.now made.0 spelled heard made.1),
+      rw (← c.self.view_is) (goes_served g.S.RowStore c.steps_are_sound.ensures (omega (arith, c.most_entries.ensures)) c.answers_fit.ensures c.seen_is_heard.ensures c.one_told_answer.ensures c.args.catalog.now
+          c.self.inside.hub c.serve.new.self c.self.inside.replica c.seen_line.new.replica (asked_by_owned c.args.request.now) c.args.wishes.now c.encode.new.out.items c.as_slice-2.result.now made.0 (rw (← c.self.view_is) at c.requires.catalog) spelled heard made.1),
     )

@@ -10,10 +10,9 @@ returns-in-Ok-clause-ends g c =
       count = c.in-Ok.ensures.opens.kept;
       opened = c.in-Ok.ensures.opened;
       shown = c.shown.ensures.shown;
-      are = c.tables-tables.ensures.tables;
+      are = c.in_order.ensures;
       fits = c.shown.ensures.fits;
-      catalog = c.in-Ok.ensures.of.0;
     } in
-    ends_following g.S.RowStore c.args.id c.args.catalog.now c.args.store c.close.result c.follow-ended.result (g.R.LineInput.failed c.follow-ended.new.reader) (g.W.LineOutput.failed c.follow-ended.new.writer)
+    ends_following g.S.RowStore c.args.catalog.now c.args.id c.args.store c.close.result c.follow-ended.result (g.R.LineInput.failed c.follow-ended.new.reader) (g.W.LineOutput.failed c.follow-ended.new.writer)
     (ended (g.R.Read.remaining c.args.reader.now)) (ended (g.R.Read.remaining c.follow-ended.new.reader)) (g.W.Write.contents c.args.writer.now) (g.W.Write.contents c.follow-ended.new.writer)
     c.in-Ok.replica c.follow-ended.new.replica c.close.ensures opened c.follow-ended.ensures.told

@@ -7,7 +7,7 @@ use Rattle.cs_node_lines.proofs.following.looking.rows_line.Goals as goal
 pub returns-in-Some : goal.returns-in-Some
 returns-in-Some g c =
     rows_told g.S.RowStore string_bytes c.args.name.now c.row_lines.result _ c.args.replica.now c.row_lines.new.replica
-    (rw c.requires (has_one c.args.catalog.now c.args.name.now c.in-Some.table c.in-Some.ensures.found.0 (rw c.as_str.ensures at c.in-Some.ensures.found.1))) c.read_reply.ensures c.row_lines.ensures
+    (has_one c.args.replica.now.catalog c.args.name.now c.in-Some.table (rw c.catalog.ensures at c.in-Some.ensures.found.0) (rw (c.catalog.ensures, c.as_str.ensures) at c.in-Some.ensures.found.1)) c.read_reply.ensures c.row_lines.ensures
 
 pub returns-in-None : goal.returns-in-None
-returns-in-None g c = no_rows g.S.RowStore c.args.name.now _ c.args.replica.now (rw c.requires (has_none c.args.catalog.now c.args.name.now (rw c.as_str.ensures at c.in-None.ensures.found))) refl
+returns-in-None g c = no_rows g.S.RowStore c.args.name.now _ c.args.replica.now (has_none c.args.replica.now.catalog c.args.name.now (rw (c.catalog.ensures, c.as_str.ensures) at c.in-None.ensures.found)) refl

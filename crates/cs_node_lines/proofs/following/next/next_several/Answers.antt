@@ -5,9 +5,9 @@ use Rattle.cs_node_lines.proofs.following.next.next_several.Goals as goal
 pub returns-in-Ok-Some : goal.returns-in-Ok-Some
 returns-in-Ok-Some g c = λ input took is.
     let gathers = rw c.in-Ok-Some.field-0-is at c.in-Ok-Some.ensures in
-    several_replied g.S.RowStore c.args.count c.args.line.now.items c.gathered_reply.result (g.R.LineInput.failed c.gather_lines.new.reader)
+    several_replied g.S.RowStore c.args.catalog.now c.args.count c.args.line.now.items c.gathered_reply.result (g.R.LineInput.failed c.gather_lines.new.reader)
     input (ended (g.R.Read.remaining c.args.reader.now)) (ended (g.R.Read.remaining c.gather_lines.new.reader)) gathers.0 c.args.replica.now c.gathered_reply.new.replica
-    is took gathers.1 gathers.2 (c.gathered_reply.ensures gathers.0 (rw c.requires gathers.3))
+    is took gathers.1 gathers.2 (c.gathered_reply.ensures gathers.0 gathers.3)
 
 pub returns-in-Ok-None : goal.returns-in-Ok-None
 returns-in-Ok-None g c = λ input took is.

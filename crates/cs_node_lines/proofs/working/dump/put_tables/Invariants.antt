@@ -5,6 +5,6 @@ use Rattle.cs_node_lines.proofs.working.dump.put_tables.Given as goal
 
 abbrev pub invariant-loop-table : goal.invariant-loop-table
 invariant-loop-table g l =
-    IsDumping g.S.RowStore l.catalog l.table (string_bytes l.initial.text) (string_bytes l.text) l.initial.replica l.replica
-    × (l.replica.catalog ≡ l.catalog)
+    IsDumping g.S.RowStore l.table (string_bytes l.initial.text) (string_bytes l.text) l.initial.replica l.replica
+    × (l.replica.catalog ≡ l.initial.replica.catalog)
     × (g.S.RowStore.failed l.initial.replica.store ≤ g.S.RowStore.failed l.replica.store)

@@ -8,9 +8,8 @@ returns-in-Ok-clause-ends g c =
       count = c.in-Ok.ensures.opens.kept;
       opened = c.in-Ok.ensures.opened;
       shown = c.shown.ensures.shown;
-      are = c.tables-tables.ensures.tables;
+      are = c.in_order.ensures;
       fits = c.shown.ensures.fits;
-      catalog = c.in-Ok.ensures.of.0;
     } in
     ends_working g.S.RowStore c.args.id c.args.catalog.now c.args.store c.close.result c.args.asks.now c.do_asks-ended.result
     (g.W.LineOutput.failed c.do_asks-ended.new.writer) (g.W.Write.contents c.args.writer.now) (g.W.Write.contents c.do_asks-ended.new.writer)

@@ -10,4 +10,5 @@ returns g c =
       pull = c.one_pull.ensures.view;
       fault = c.one_pull_fault.ensures.one;
       no_fault = c.one_pull_fault.ensures.pulled;
+      wide_tables = c.widened_are_tables.ensures;
     })

@@ -11,6 +11,7 @@ returns g c =
         pull = c.one_pull.ensures.view;
         fault = c.one_pull_fault.ensures.one;
         no_fault = c.one_pull_fault.ensures.pulled;
+        wide_tables = c.widened_are_tables.ensures;
       };
       push = c.one_push.ensures.one;
       fault = c.one_push.ensures.fault;

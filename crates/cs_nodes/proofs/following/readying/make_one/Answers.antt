@@ -6,7 +6,7 @@ use Rattle.cs_pending.specs.position.Shows.{ShowsAt}
 use Rattle.cs_pending.specs.declared.position.position.Position.{Position}
 use Rattle.cs_nodes.proofs.FollowingLemmas.InTurn.{failed_alone}
 use Rattle.cs_nodes.proofs.FollowingLemmas.Readied.{device_made, made_next, made_ready, made_rows, made_shows, never_made}
-use Rattle.cs_nodes.proofs.FollowingLemmas.Stood.{readied_stands}
+use Rattle.cs_nodes.proofs.FollowingLemmas.Stood.{are_tables, readied_stands}
 use Rattle.cs_nodes.proofs.following.readying.make_one.Goals as goal
 
 pub returns-in-Ok-clause-readied : goal.returns-in-Ok-clause-readied
@@ -20,17 +20,18 @@ returns-in-Ok-clause-readied g c = λ h are before shows.
 pub returns-in-Ok-clause-stands : goal.returns-in-Ok-clause-stands
 returns-in-Ok-clause-stands g c = λ known stands h.
     let s = stands (c.in-Ok.ensures.writes.was_honest h) in
+    let are = are_tables c.catalogs_are_tables.ensures c.args.replica.now.catalog known c.args.replica.now.position s.0 s.2 in
     let made = c.in-Ok.ensures.writes.ok h s.0 s.1 in
     let moved = c.in-Ok.ensures.moved in
     let seen = c.shown.ensures.shown h in
     let shown = subst (λ (t : List TableDef). ShowsAt t (g.S.RowStore.contents c.make_push.new.self.store) c.make_push.new.self.position seen.0) c.make_push.ensures.catalog seen.1 in
-    readied_stands g.S.RowStore known c.args.replica.now c.make_push.new.self c.in-Ok.ensures.writes.was_honest c.make_push.ensures.catalog
-    c.steps_stand.ensures.kept s.0 (grounded s.0) h
+    readied_stands g.S.RowStore known c.args.replica.now c.make_push.new.self c.in-Ok.ensures.writes.was_honest
+    c.steps_stand.ensures.kept c.make_push.ensures.catalog s.0 (grounded s.0) h
     (subst (λ (t : List TableDef). ShowsAt t (g.S.RowStore.contents c.make_push.new.self.store) c.make_push.new.self.position (grounded s.0)) (sym c.make_push.ensures.catalog)
-    (made_shows c.one_body.ensures c.args.replica.now.catalog s.2.of_catalog c.args.replica.now.position c.make_push.new.self.position (g.S.RowStore.contents c.args.replica.now.store) (g.S.RowStore.contents c.make_push.new.self.store) s.0
+    (made_shows c.one_body.ensures c.args.replica.now.catalog are c.args.replica.now.position c.make_push.new.self.position (g.S.RowStore.contents c.args.replica.now.store) (g.S.RowStore.contents c.make_push.new.self.store) s.0
     made.0 moved.0 made.1 moved.1 seen.0 shown))
     (ap (λ (x : Position). x.version) moved.1)
-    (made_rows c.one_body.ensures c.args.replica.now.catalog s.2.of_catalog c.args.replica.now.position c.make_push.new.self.position (g.S.RowStore.contents c.args.replica.now.store) (g.S.RowStore.contents c.make_push.new.self.store) s.0
+    (made_rows c.one_body.ensures c.args.replica.now.catalog are c.args.replica.now.position c.make_push.new.self.position (g.S.RowStore.contents c.args.replica.now.store) (g.S.RowStore.contents c.make_push.new.self.store) s.0
     made.0 moved.0 made.1 moved.1 seen.0 shown)
     s.2
 

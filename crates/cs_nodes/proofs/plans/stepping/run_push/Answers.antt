@@ -7,7 +7,7 @@ pub returns-in-Ok : goal.returns-in-Ok
 returns-in-Ok c =
     let stood = c.stands.ensures.stands tt in
     push_turns c.args.node.now c.push-pushed.new.self c.args.spine.now c.args.wishes.now c.new-picker.result c.push-pushed.new.picker c.is_under_way-was_under_way.result (is_some c.push-pushed.new.self.replica.position.flight)
-    (Ok c.in-Ok.told) c.stepped.result c.in-Ok.ensures.catalog c.in-Ok.ensures.spine c.requires c.in-Ok.ensures.begins
+    (Ok c.in-Ok.told) c.stepped.result c.in-Ok.ensures.catalog c.stands.ensures.within c.in-Ok.ensures.spine c.requires c.in-Ok.ensures.begins
     (record {
       outcome_is = c.stepped.ensures.outcome;
       known_is = c.stepped.ensures.known;
@@ -22,7 +22,7 @@ pub returns-in-Err : goal.returns-in-Err
 returns-in-Err c =
     let stood = c.stands.ensures.stands tt in
     push_turns c.args.node.now c.push-pushed.new.self c.args.spine.now c.args.wishes.now c.new-picker.result c.push-pushed.new.picker c.is_under_way-was_under_way.result c.is_under_way.result
-    (Err c.in-Err.fault) c.stepped-in-Err.result c.in-Err.ensures.catalog c.in-Err.ensures.spine c.requires c.in-Err.ensures.begins
+    (Err c.in-Err.fault) c.stepped-in-Err.result c.in-Err.ensures.catalog c.stands.ensures.within c.in-Err.ensures.spine c.requires c.in-Err.ensures.begins
     (record {
       outcome_is = c.stepped-in-Err.ensures.outcome;
       known_is = c.stepped-in-Err.ensures.known;

@@ -18,7 +18,7 @@ returns-clause-turned g c =
     let tables = c.self.inside.catalog in
     rw (← c.self.view_is)
     (stepped g.S.RowStore tables c.self.inside.store c.edit_at-edited.new.store c.self.inside.position c.edit_at-edited.new.position
-    Device (Leads (edit tables (table_of_edit c.args.edit.now) (asked_of_edit c.args.edit.now))) (IsEditFault tables c.args.edit.now) c.edit_at-edited.result
+    Device (λ ts. Leads (edit ts (table_of_edit c.args.edit.now) (asked_of_edit c.args.edit.now))) (λ ts. IsEditFault ts c.args.edit.now) c.edit_at-edited.result
     (rw (c.of.ensures.0, c.of.ensures.1) at c.edit_at-edited.ensures.writes) (rw (c.of.ensures.0, c.of.ensures.1) at c.edit_at-edited.ensures.refused)
     c.edit_at-edited.ensures.moved c.edit_at-edited.ensures.counted c.edit_at-edited.ensures.kept)
 

@@ -14,7 +14,7 @@ returns-clause-turned g c =
     let tables = c.self.inside.catalog in
     rw (← c.self.view_is)
     (stepped g.S.RowStore tables c.self.inside.store c.edit_all_at-edited.new.store c.self.inside.position c.edit_all_at-edited.new.position
-    Device (AreEdited tables c.args.edits.now) (λ fault view. IsEditsFault tables c.args.edits.now view fault) c.edit_all_at-edited.result
+    Device (λ ts. AreEdited ts c.args.edits.now) (λ ts fault view. IsEditsFault ts c.args.edits.now view fault) c.edit_all_at-edited.result
     c.edit_all_at-edited.ensures.writes c.edit_all_at-edited.ensures.refused c.edit_all_at-edited.ensures.moved c.edit_all_at-edited.ensures.counted c.edit_all_at-edited.ensures.kept)
 
 pub returns-clause-left : goal.returns-clause-left

@@ -12,8 +12,8 @@ returns-in_default g c =
 
 pub returns-in-Ok : goal.returns-in-Ok
 returns-in-Ok g c =
-    rw (← c.self.view_is) (edits g.S.RowStore MAX_ENTRIES c.self.inside.hub c.self.inside.replicas.items c.self.inside.letters.items c.args.which c.in-Some.replica.now (slice_get_read c.self.inside.replicas.items (length c.self.inside.replicas.items) c.args.which c.in-Some.replica.now refl c.in-Some.ensures.item.3.0 c.in-Some.ensures.value) c.edit.new.self c.args.edit.now c.self.inside.letters.items refl (told_as g.S.RowStore c.edit.ensures.counts (λ none. absurd none)) c.edit.ensures.left (rw c.in-Ok.is at c.edit.ensures.turned))
+    rw (← c.self.view_is) (edits g.S.RowStore MAX_ENTRIES c.self.inside.hub c.self.inside.replicas.items c.self.inside.letters.items c.args.which c.in-Some.replica.now (slice_get_read c.self.inside.replicas.items (length c.self.inside.replicas.items) c.args.which c.in-Some.replica.now refl c.in-Some.ensures.item.3.0 c.in-Some.ensures.value) c.edit.new.self c.args.edit.now c.self.inside.letters.items refl c.edit.ensures.catalog (told_as g.S.RowStore c.edit.ensures.counts (λ none. absurd none)) c.edit.ensures.left (rw c.in-Ok.is at c.edit.ensures.turned))
 
 pub returns-in-Err : goal.returns-in-Err
 returns-in-Err g c =
-    rw (← c.self.view_is) (edits_not g.S.RowStore MAX_ENTRIES c.self.inside.hub c.self.inside.replicas.items c.self.inside.letters.items c.args.which c.in-Some.replica.now (slice_get_read c.self.inside.replicas.items (length c.self.inside.replicas.items) c.args.which c.in-Some.replica.now refl c.in-Some.ensures.item.3.0 c.in-Some.ensures.value) c.edit.new.self c.args.edit.now c.in-Err.fault c.self.inside.letters.items refl (told_as g.S.RowStore c.edit.ensures.counts (λ is. c.in-Err.is ∙ ap (λ f. Err f) is)) c.edit.ensures.left (rw c.in-Err.is at c.edit.ensures.turned))
+    rw (← c.self.view_is) (edits_not g.S.RowStore MAX_ENTRIES c.self.inside.hub c.self.inside.replicas.items c.self.inside.letters.items c.args.which c.in-Some.replica.now (slice_get_read c.self.inside.replicas.items (length c.self.inside.replicas.items) c.args.which c.in-Some.replica.now refl c.in-Some.ensures.item.3.0 c.in-Some.ensures.value) c.edit.new.self c.args.edit.now c.in-Err.fault c.self.inside.letters.items refl c.edit.ensures.catalog (told_as g.S.RowStore c.edit.ensures.counts (λ is. c.in-Err.is ∙ ap (λ f. Err f) is)) c.edit.ensures.left (rw c.in-Err.is at c.edit.ensures.turned))

@@ -16,8 +16,8 @@ returns-in_default g c =
 
 pub returns-in-Ok : goal.returns-in-Ok
 returns-in-Ok g c =
-    rw (← c.self.view_is) (pushes g.S.RowStore MAX_ENTRIES c.self.inside.hub c.self.inside.replicas.items c.self.inside.letters.items c.args.which c.in-Some.replica.now (slice_get_read c.self.inside.replicas.items (length c.self.inside.replicas.items) c.args.which c.in-Some.replica.now refl c.in-Some.ensures.item.3.0 c.in-Some.ensures.value) c.make_push.new.self c.in-Ok.request c.new.result c.send.result c.reserve.new.self.items c.send.new.letters.items c.new.ensures c.reserve.ensures.items c.send.ensures.items c.send.ensures.sent (told_as g.S.RowStore c.make_push.ensures.counts (λ none. absurd none)) c.make_push.ensures.left (rw c.in-Ok.is at c.make_push.ensures.turned))
+    rw (← c.self.view_is) (pushes g.S.RowStore MAX_ENTRIES c.self.inside.hub c.self.inside.replicas.items c.self.inside.letters.items c.args.which c.in-Some.replica.now (slice_get_read c.self.inside.replicas.items (length c.self.inside.replicas.items) c.args.which c.in-Some.replica.now refl c.in-Some.ensures.item.3.0 c.in-Some.ensures.value) c.make_push.new.self c.in-Ok.request c.new.result c.send.result c.reserve.new.self.items c.send.new.letters.items c.new.ensures c.reserve.ensures.items c.send.ensures.items c.send.ensures.sent c.make_push.ensures.catalog (told_as g.S.RowStore c.make_push.ensures.counts (λ none. absurd none)) c.make_push.ensures.left (rw c.in-Ok.is at c.make_push.ensures.turned))
 
 pub returns-in-Err : goal.returns-in-Err
 returns-in-Err g c =
-    rw (← c.self.view_is) (pushes_not g.S.RowStore MAX_ENTRIES c.self.inside.hub c.self.inside.replicas.items c.self.inside.letters.items c.args.which c.in-Some.replica.now (slice_get_read c.self.inside.replicas.items (length c.self.inside.replicas.items) c.args.which c.in-Some.replica.now refl c.in-Some.ensures.item.3.0 c.in-Some.ensures.value) c.make_push.new.self c.in-Err.fault c.reserve.new.self.items c.reserve.ensures.items (told_as g.S.RowStore c.make_push.ensures.counts (λ is. c.in-Err.is ∙ ap (λ f. Err f) is)) c.make_push.ensures.left (rw c.in-Err.is at c.make_push.ensures.turned))
+    rw (← c.self.view_is) (pushes_not g.S.RowStore MAX_ENTRIES c.self.inside.hub c.self.inside.replicas.items c.self.inside.letters.items c.args.which c.in-Some.replica.now (slice_get_read c.self.inside.replicas.items (length c.self.inside.replicas.items) c.args.which c.in-Some.replica.now refl c.in-Some.ensures.item.3.0 c.in-Some.ensures.value) c.make_push.new.self c.in-Err.fault c.reserve.new.self.items c.reserve.ensures.items c.make_push.ensures.catalog (told_as g.S.RowStore c.make_push.ensures.counts (λ is. c.in-Err.is ∙ ap (λ f. Err f) is)) c.make_push.ensures.left (rw c.in-Err.is at c.make_push.ensures.turned))

@@ -40,12 +40,12 @@ loop-store-preserved g c =
 
 pub returns : goal.returns
 returns g c =
-    is_new g.S.RowStore MAX_ENTRIES c.args.catalog.now c.tables-tables.ensures.tables c.first_is_sound.ensures c.in_ok-hub.hub c.loop-store.opened.items c.new.result.items c.new.ensures.items
+    is_new g.S.RowStore MAX_ENTRIES c.args.catalog.now c.tables-tables.ensures.tables c.first_is_sound.ensures c.widen_is_entry.ensures.origin c.in_ok-hub.hub c.loop-store.opened.items c.new.result.items c.new.ensures.items
     (length c.args.replicas.items) (let none : length (into_iter_items c.loop-store.store-iterator) ≡ 0 = sym c.loop-store.store-iterator.rest.ok.0 ∙ c.in-None.ensures.steps.0 in omega (arith, none, c.loop-store.invariant.counted)) (omega (arith, c.requires.count)) c.in_ok-hub.ensures.catalog c.in_ok-hub.ensures.shown c.loop-store.invariant.news
 
 pub invariant_of-result : goal.invariant_of-result
 invariant_of-result g c = λ all.
     let n = new_stands g.S.RowStore MAX_ENTRIES c.args.catalog.now (length c.args.replicas.items) _
-    (is_new g.S.RowStore MAX_ENTRIES c.args.catalog.now c.tables-tables.ensures.tables c.first_is_sound.ensures c.in_ok-hub.hub c.loop-store.opened.items c.new.result.items c.new.ensures.items
+    (is_new g.S.RowStore MAX_ENTRIES c.args.catalog.now c.tables-tables.ensures.tables c.first_is_sound.ensures c.widen_is_entry.ensures.origin c.in_ok-hub.hub c.loop-store.opened.items c.new.result.items c.new.ensures.items
     (length c.args.replicas.items) (let none : length (into_iter_items c.loop-store.store-iterator) ≡ 0 = sym c.loop-store.store-iterator.rest.ok.0 ∙ c.in-None.ensures.steps.0 in omega (arith, none, c.loop-store.invariant.counted)) (omega (arith, c.requires.count)) c.in_ok-hub.ensures.catalog c.in_ok-hub.ensures.shown c.loop-store.invariant.news) all in
     (n.0, n.1, new_leaves g.S.RowStore MAX_ENTRIES c.args.catalog.now c.in_ok-hub.hub c.loop-store.opened.items c.new.result.items c.in_ok-hub.ensures.alone c.loop-store.invariant.news all n.0)

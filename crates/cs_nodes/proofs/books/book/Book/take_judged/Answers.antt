@@ -9,7 +9,7 @@ invariant_of-self g c =
     let here : slice_get c.self.inside.pass.known c.self.inside.hub.newest ≡ Some c.args.entry.now = rw (← c.self.view_is) at c.requires.known in
     let book : BookState g.row.S.Denot = record { row = c.self.inside.spine.now; hub = c.self.inside.hub; pass = c.self.inside.pass } in
     book_again g.S.RowStore book c.self.invariant c.args.entry.now here c.append_judged.new.self c.append_judged.ensures.catalog
-    Device c.append_judged.result c.append_judged.ensures.writes c.append_judged.ensures.counted c.append_judged.ensures.kept c.append_judged.ensures.appended
+    Device c.append_judged.result c.append_judged.ensures.writes c.append_judged.ensures.counted c.append_judged.ensures.kept c.append_judged.ensures.widens c.append_judged.ensures.appended
 
 pub returns-clause-later : goal.returns-clause-later
 returns-clause-later g c =
@@ -26,4 +26,4 @@ returns-clause-front g c =
     let book : BookState g.row.S.Denot = record { row = c.self.inside.spine.now; hub = c.self.inside.hub; pass = c.self.inside.pass } in
     has_taken g.S.RowStore (record { row = c.self.inside.spine.now; hub = c.append_judged.new.self; pass = c.self.inside.pass })
     (book_again g.S.RowStore book c.self.invariant c.args.entry.now here c.append_judged.new.self c.append_judged.ensures.catalog
-    Device c.append_judged.result c.append_judged.ensures.writes c.append_judged.ensures.counted c.append_judged.ensures.kept c.append_judged.ensures.appended)
+    Device c.append_judged.result c.append_judged.ensures.writes c.append_judged.ensures.counted c.append_judged.ensures.kept c.append_judged.ensures.widens c.append_judged.ensures.appended)

@@ -12,7 +12,7 @@ invariant_of-self g c =
     let here : slice_get c.self.inside.pass.known c.self.inside.hub.newest ≡ Some c.entry-entry.result.now = rw c.newest.ensures at c.entry-entry.ensures in
     let book : BookState g.row.S.Denot = record { row = c.self.inside.spine.now; hub = c.self.inside.hub; pass = c.self.inside.pass } in
     book_again g.S.RowStore book c.self.invariant c.entry-entry.result.now here c.follow.new.self c.follow.ensures.catalog
-    Device c.follow.result c.follow.ensures.writes c.follow.ensures.counted c.follow.ensures.kept
+    Device c.follow.result c.follow.ensures.writes c.follow.ensures.counted c.follow.ensures.kept c.follow.ensures.widens
     (shown_of g.S.RowStore book c.self.invariant c.entry-entry.result.now here c.follow.new.self c.follow.ensures.catalog
     c.follow.result c.follow.ensures.followed)
 
@@ -32,7 +32,7 @@ returns-clause-front g c =
     let book : BookState g.row.S.Denot = record { row = c.self.inside.spine.now; hub = c.self.inside.hub; pass = c.self.inside.pass } in
     has_taken g.S.RowStore (record { row = c.self.inside.spine.now; hub = c.follow.new.self; pass = c.self.inside.pass })
     (book_again g.S.RowStore book c.self.invariant c.entry-entry.result.now here c.follow.new.self c.follow.ensures.catalog
-    Device c.follow.result c.follow.ensures.writes c.follow.ensures.counted c.follow.ensures.kept
+    Device c.follow.result c.follow.ensures.writes c.follow.ensures.counted c.follow.ensures.kept c.follow.ensures.widens
     (shown_of g.S.RowStore book c.self.invariant c.entry-entry.result.now here c.follow.new.self c.follow.ensures.catalog
     c.follow.result c.follow.ensures.followed))
 
