@@ -31,11 +31,16 @@ fn told(alloc: Global, bytes: &[u8]) -> Option<bool> {
     Present::new(&catalog).judge_body(alloc, bytes).ok()
 }
 
-/// A body with a change, with two, and one without.
-const BODIES: [&[u8]; 3] = [
+/// The body that widens `t1` to three columns, as it is stored.
+const WIDEN: &[u8] = b"\x01\0\0\0\x03t1";
+
+/// A body with a change, with two, and one without. Others give `t1` a third column, and as many as a table may have.
+const BODIES: [&[u8]; 5] = [
     INSERT,
     b"\0\x54\x02\x01\0t1\0\x12\0\x01\0\0\0\0\0\0\0\x01\x03\x02v1\x12\0\x01\0\0\0\0\0\0\0\x02\x03\x02v1",
     b"\0",
+    WIDEN,
+    b"\x01\0\0\x07\xd0t1",
 ];
 
 #[test]
@@ -51,14 +56,13 @@ fn is_refused(alloc: Global, bytes: &[u8]) -> bool {
     matches!(body(alloc, bytes), Err(BodyFault::NoBody))
 }
 
-/// The body that widens `t1` to three columns, as it is stored.
-const WIDEN: &[u8] = b"\x01\0\0\0\x03t1";
-
-/// No byte, another kind, another table, a key column's mark 2 in place of the normal form's 1, one byte too few, keys that fall. The
-/// first of the others would widen `t1` to three columns, which none may yet, and the next lacks a byte for that.
-const NO_BODIES: [&[u8]; 8] = [
+/// No byte, another kind, another table, a key column's mark 2 in place of the normal form's 1, one byte too few, keys that fall. Others
+/// would give `t1` the two columns that it has, or 2,001, or `t9` three, and one lacks a byte of the width.
+const NO_BODIES: [&[u8]; 10] = [
     b"",
-    WIDEN,
+    b"\x01\0\0\0\x02t1",
+    b"\x01\0\0\x07\xd1t1",
+    b"\x01\0\0\0\x03t9",
     b"\x01\0\0\x03",
     b"\x01\x54\x02\x01\0t1\0\x12\0\x01\0\0\0\0\0\0\0\x01\x03\x02v1",
     b"\0\x54\x02\x01\0t9\0\x12\0\x01\0\0\0\0\0\0\0\x01\x03\x02v1",

@@ -1,5 +1,5 @@
 //! The log that a hub keeps and a replica follows: its entries, and the tables at each version. An entry is the push of a
-//! replica, with the changeset that it made, or widens a table, which none may yet. `specs/log/Log.antt` says what a log is
+//! replica, with the changeset that it made, or widens a table. `specs/log/Log.antt` says what a log is
 //! and which tables and catalog it has at a version; whoever stands above speaks of them by those names. `put_body` appends
 //! what an entry does as it is stored, and `read_body` reads exactly that. `laws` says that a longer log has the same tables at
 //! the versions that it had, and that there is one state a version. It says too that the entries between two versions lead from

@@ -36,7 +36,7 @@ const BODY: &[u8] = &[
 
 const OTHER_BODY: &[u8] = &[7, 0x54, 2, 1, 0, 0x74, 0x31, 0];
 
-/// The body of an entry that would widen `t1` to three columns, which none may yet.
+/// The body of an entry that gives `t1` a third column.
 const WIDEN_BODY: &[u8] = &[1, 0, 0, 0, 3, 0x74, 0x31];
 
 /// A row, a pending change, the body of an entry, and whether a store that holds these is whole.
@@ -47,22 +47,28 @@ const WHOLE: Edit<'static> = (0, KEY, Some(ROW));
 
 const CHANGE: Edit<'static> = (0, KEY, Some(INSERT));
 
+/// The same with a third column.
+const LONG: Edit<'static> = (0, KEY, Some(LONG_ROW));
+
+const LONG_CHANGE: Edit<'static> = (0, KEY, Some(LONG_INSERT));
+
 /// Stores that are whole; rows, changes and bodies that aren't what their place says.
-pub const HELD: [Held; 15] = [
+pub const HELD: [Held; 16] = [
     (WHOLE, CHANGE, BODY, true),
     (WHOLE, (0, KEY, Some(UPDATE)), &[0], true),
     ((1, KEY, Some(ROW)), CHANGE, BODY, false),
     ((u32::MAX, KEY, Some(ROW)), CHANGE, BODY, false),
     ((0, OTHER_KEY, Some(ROW)), CHANGE, BODY, false),
-    ((0, KEY, Some(LONG_ROW)), CHANGE, BODY, false),
+    (LONG, CHANGE, BODY, false),
     ((0, NULL_KEY, Some(NULL_ROW)), CHANGE, BODY, false),
     ((0, KEY, Some(INSERT)), CHANGE, BODY, false),
     (WHOLE, (1, KEY, Some(INSERT)), BODY, false),
     (WHOLE, (0, OTHER_KEY, Some(UPDATE)), BODY, false),
-    (WHOLE, (0, KEY, Some(LONG_INSERT)), BODY, false),
+    (WHOLE, LONG_CHANGE, BODY, false),
     (WHOLE, (0, KEY, Some(ROW)), BODY, false),
     (WHOLE, CHANGE, OTHER_BODY, false),
     (WHOLE, CHANGE, WIDEN_BODY, false),
+    (LONG, LONG_CHANGE, WIDEN_BODY, true),
     (WHOLE, CHANGE, &[], false),
 ];
 
