@@ -1,5 +1,6 @@
 mod Applied
 mod Bytes
 mod Cans
+mod Decided
 mod OnePlace
 mod States
