@@ -78,7 +78,7 @@ module _ (next_or_not : NextOrNot) (tables : List TableDef) where
     by_may (inl may) = inl (rest, from_be_bytes w32 front, (may, spelled))
     by_may (inr never) =
         inr (λ table width is.
-        let same = told table width (let most = is.0.1.4 in omega (arith, most)) is.1 in
+        let same = told table width (let most = is.0.4 in omega (arith, most)) is.1 in
         never (subst (λ (n : List ℕ). MayWiden tables (Widen n (from_be_bytes w32 front))) same.0 (subst (λ (w : ℕ). MayWiden tables (Widen table w)) same.1 is.0)))
 
   wide_or_not : (bytes : List ℕ) → AreBytes bytes → Widens bytes

@@ -53,7 +53,7 @@ defined_there (Some end) place some = refl
 body_made : (tables : List TableDef) (state : State) (body : Body) → IsDefinedOn tables (changes_of_body body) state → MayWiden tables body → IsMade tables body state (after_body state body)
 body_made tables state (Changes changes) defined widens =
     (defined.0, λ name key. defined_there (left_at changes state name key) (state name key) (defined.1 name key))
-body_made tables state (Widen table width) defined can = (can.1, λ name key. refl)
+body_made tables state (Widen table width) defined can = (can, λ name key. refl)
 
 -- the catalog behind a log
 at_length : (opening : List TableDef) (log : List LogEntry) → catalog_at opening log (length log) ≡ catalog_of opening log
@@ -133,7 +133,7 @@ plain_slices opening log from to each within none =
 
 tables_after : WidenedAreTables → (tables : List TableDef) (body : Body) → AreTables tables → MayWiden tables body → AreTables (catalog_after tables body)
 tables_after wide tables (Changes changes) are may = are
-tables_after wide tables (Widen table width) are can = wide tables table width are can.1
+tables_after wide tables (Widen table width) are can = wide tables table width are can
 
 state_after : AppliedIsNet → WidenedIsState → (tables : List TableDef) (body : Body) (before end : State) → AreTables tables → IsNormalChangeset (changes_of_body body) → IsStateOf tables before → IsMade tables body before end → IsStateOf (catalog_after tables body) end
 state_after net wide tables (Changes changes) before end are normal state made = (net tables changes before end are normal state made).0
