@@ -8,6 +8,7 @@ use cs_nodes::{Node, NodeFault, NodePush};
 use cs_pending::EditFault;
 use cs_pending::rows::RowAtKey;
 use cs_spine::Spine;
+use cs_store::log::{Body, LogEntry};
 use cs_store::{RowStore, StoreFault, Trip};
 use cs_store_cases::catalog;
 use cs_value::{Edit, Items, Memory, Text, Value};
@@ -202,6 +203,23 @@ pub(crate) fn shows<'s, S: RowStore>(
     let rows = node.rows(alloc, 0)?;
     let same = have_bytes(rows.as_slice(), wanted);
     Ok(same && node.version() == version && node.pending_len() == pending)
+}
+
+/// Whether the first cell is set to an entry of another that does this.
+pub(crate) fn sets_first(spine: &Spine, body: Body) -> Option<bool> {
+    let entry = LogEntry {
+        origin: 9,
+        number: 1,
+        body,
+    };
+    let mut pass = spine.pass().ok()?;
+    Some(spine.offer(&mut pass, &entry).is_ok())
+}
+
+/// What gives a table so many columns.
+pub(crate) fn widening(alloc: Global, table: &str, width: u32) -> Option<Body> {
+    let table = Text::from_string(String::from_str(alloc, table).ok()?);
+    Some(Body::Widen { table, width })
 }
 
 /// Whether a pull takes one entry, and (2, 'v2') is then shown, alone.

@@ -21,5 +21,7 @@ mod planned;
 mod threads;
 #[cfg(test)]
 mod undefined;
+#[cfg(test)]
+mod widened;
 
 fn main() {}
