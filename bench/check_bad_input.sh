@@ -2,7 +2,7 @@
 # Gives the built program bad input: every front of worked changesets and rebase blobs, and each of their bytes changed. A
 # front is accepted where it is whole itself, and else refused as Truncated, with its length. Whatever is refused is refused by
 # name, in one line, with nothing written and status 1; whatever is accepted is one line. Beside that a blob of another table,
-# of another shape, with a key twice, and local changesets with a fault.
+# of another shape, with a key twice, and local changesets with a fault; and requests and entries that give a table columns, each byte changed.
 # Usage: bench/check_bad_input.sh PROGRAM
 set -u
 program="${1:?usage: bench/check_bad_input.sh PROGRAM}"
@@ -110,6 +110,32 @@ refused KeyTwice "${local}0900${k1}03027631" "$blob"
 refused NullKey "${h1}12000503027631" "$blob"
 refused Shape "${local}540101743100" "$blob"
 refused BadHex "${local}0" "$blob"
+
+# What is asked of a hub, and told to a replica, of a table's columns: each byte of both changed. One line comes back, and the replica's file opens again.
+line_of() {
+    [ "$status" -eq 0 ] && [ -z "$told" ] && [[ "$written" =~ $2 ]] || tell "$1" "ended with $status, printed '$written', told '$told'"
+}
+
+asked=040000000000000001000000000000000000000003000000027431
+given=1400000000000000000000000101ffffffff000000000000000100000006000000037431
+answered='^(11ffffffff[0-9a-f]{16}0000000000000001|13(01|02|06|14|15|28|2e))$'
+heard='^(taken [01] version [01]|fault BadEntry after 0|refused (BadTag|Truncated|TooLong|BadKind)|ignored|stale [0-9]+|hub refused [0-9]+)$'
+stands='^replica 7 version [01] pending 1 flight 0$'
+for change in 1 2 4 7 16 128 255; do
+    for ((at = 0; at < ${#given} / 2; at++)); do
+        if ((at < ${#asked} / 2)); then
+            run 'hub t1:10' "${asked:0:2 * at}$(printf '%02x' $((16#${asked:2 * at:2} ^ change)))${asked:2 * at + 2}"
+            line_of "hub, byte $at of a request changed by $change" "$answered"
+        fi
+        rm -f "$dir/file" "$dir/file-wal" "$dir/file-shm"
+        run "node $dir/file 7 t1:10" 'edit insert t1 1 t=v1' "answer ${given:0:2 * at}$(printf '%02x' $((16#${given:2 * at:2} ^ change)))${given:2 * at + 2} -"
+        written="${written#ok$'\n'}"
+        line_of "node, byte $at of an answer changed by $change" "$heard"
+        run "node $dir/file 7 t1:10" dump
+        written="${written%%$'\n'*}"
+        line_of "node, behind byte $at of an answer changed by $change" "$stands"
+    done
+done
 
 [ "$failed" -eq 0 ] && echo "bad input: $runs runs, each accepted whole or refused by name with nothing written"
 exit "$failed"

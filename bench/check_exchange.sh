@@ -1,6 +1,6 @@
 #!/bin/sh
 # Runs the built program `sync exchange` on what a person types: a hub's file and replicas' files, with edits, clashes that stop, are kept and are
-# taken, pushes under way and lost answers, a hub put back to an old copy, more entries than are asked for at once, files that are another's or
+# taken, pushes under way and lost answers, a hub put back to an old copy, more entries than are asked for at once, a table that gets a column, files that are another's or
 # aren't opened, a full device, and flags. Each run's status, output and errors are compared with what they have to be, and in the end the rows.
 # Usage: bench/check_exchange.sh PROGRAM
 set -u
@@ -103,6 +103,34 @@ runs=$((runs + 1))
 meets 2 '' "$(place 2 9 0 0)"
 meets 1 --keep "taken 1 version 9\\n$(place 1 9 0 0)"
 
+# A table gets a column while two replicas have edits of the old ones. They come to it by themselves, ask nobody at it, and push with it; a new replica is told what
+# stands before it together, it alone, and what stands behind it together. A second request is one entry, and the words of the hub's file stay those it was made by.
+edits 1 'edit update t1 1 t=z' 'edit insert t1 9 null'
+edits 2 'edit update t1 1 t=w' 'edit delete t1 2'
+behind='row t1 5 null null\nrow t1 6 null null\nrow t1 7 null null\nrow t1 8 null null\n'
+expect 0 '040000000000000001000000000000000900000003000000027431\n' '11ffffffff0000000000000001000000000000000a\n' '' hub --file hub t1:10
+expect 0 '040000000000000001000000000000000900000003000000027431\n' '11ffffffff0000000000000001000000000000000a\n' '' hub --file hub t1:10
+meets 1 --stop "taken 1 version 10\\naccepted 11\\n$(place 1 11 0 0)"
+clash='stopped 0 version 10 clash data t1 update 0 1 t=i - > - t=z - row 1 t=w null own update 0 1 t=i - > - t=w - lawful kt\n'
+stays 2 '' "taken 1 version 10\\n$clash$(place 2 10 2 0)"
+expect 0 'dump\n' "$(place 2 10 2 0)row t1 1 t=w null\\nrow t1 3 t=k null\\nrow t1 4 t=4 null\\n$behind" '' node r2 2 t1:10
+stays 2 --stop "$clash$(place 2 10 2 0)"
+meets 2 --keep "taken 1 version 11\\naccepted 12\\n$(place 2 12 0 0)"
+expect 0 'edit update t1 1 t=v\nedit update t1 1 - 5\n' 'refused Width\nok\n' '' node r1 1 t1:10
+meets 1 --stop "taken 1 version 12\\naccepted 13\\n$(place 1 13 0 0)"
+meets 4 '' "taken 9 version 9\\ntaken 1 version 10\\ntaken 3 version 13\\n$(place 4 13 0 0)"
+meets 2 --stop "taken 1 version 13\\n$(place 2 13 0 0)"
+rows="row t1 1 t=w 5\\nrow t1 3 t=k null\\nrow t1 4 t=4 null\\n${behind}row t1 9 null null\\n"
+for id in 1 2 4; do
+    expect 0 'dump\n' "$(place $id 13 0 0)$rows" '' node "r$id" "$id" t1:10
+    expect 0 'dump\n' "$(place $id 13 0 0)$rows" '' node "r$id" "$id" t1:100
+done
+expect 1 '' '' 'sync: hub Mismatch\n' exchange hub r1 1 t1:100
+# A file that was made by the wider words can't take what the hub had before. Words of more columns than a file has are another's.
+expect 0 '' '' '' node r5 5 t1:100
+stays 5 '' "fault BadEntry after 0\\n$(place 5 0 0 0)"
+expect 1 '' '' 'sync: Mismatch\n' node r1 1 t1:1000
+
 # Words.
 expect 2 '' '' 'sync: command line\n' exchange --keep --take hub r1 1 t1:10
 expect 2 '' '' 'sync: command line\n' exchange --keep --stop hub r1 1 t1:10
@@ -110,7 +138,7 @@ expect 2 '' '' 'sync: command line\n' exchange hub r1 t1:10
 expect 2 '' '' 'sync: command line\n' exchange hub r1 4294967295 t1:10
 expect 2 '' '' 'sync: command line\n' exchange --hold hub r1 1 t1:10
 expect 2 '' '' 'sync: table t1\n' exchange hub r1 1 t1
-expect 0 '' "$(place 1 9 0 0)" '' exchange hub r1 1 t1:10 --keep
+expect 0 '' "$(place 1 13 0 0)" '' exchange hub r1 1 t1:10 --keep
 
 if [ "$failed" -eq 0 ]; then
     echo "exchange: $runs runs as they have to be"

@@ -1,7 +1,7 @@
 #!/usr/bin/env bash
 # Runs the built program `sync` on files: `node FILE ID TABLE..` and `hub --file FILE TABLE..`. What they leave is opened in the `sqlite3`
-# shell, where that can be had, and compared there; a second run goes on where the first ended. Then files that are bad or aren't ours: an
-# empty file, a text, a database of others, fronts of a good file, one with a byte changed at each of 200 drawn places, a directory, a file
+# shell, where that can be had, and compared there; a second run goes on where the first ended, also where a table got columns. Then files that are bad or aren't ours: an
+# empty file, a text, a database of others, fronts of a good file, one with a byte changed at each of 400 drawn places, a directory, a file
 # that can't be read, a device that is full. Each is refused by name, in one line, with nothing printed and every byte of it as it was; or opened as what
 # it holds. No run crashes or takes longer than its time.
 # Usage: bench/check_files.sh PROGRAM
@@ -100,6 +100,48 @@ refuses 'hub of other tables' 'sync: Mismatch' "$push\n" hub --file "$hub" t1:11
 refuses 'a hub as a node' 'sync: Mismatch' 'dump\n' node "$hub" 0 t1:10
 refuses 'a line that no node reads, before a file that does not open' 'sync: line 1' 'push 1\n' node "$hub" 0 t1:10
 
+# ---- a table that gets a column: the hub goes on by the words that it was made by, and the node by these or wider ones
+
+widen=040000000000000001000000000000000100000003000000027431
+wider=01ffffffff000000000000000100000006000000037431
+widened=11ffffffff00000000000000010000000000000002
+wide=5403010000743100
+accepted=110000000000000000000000010000000000000001
+wide_insert=${wide}1200010000000000000002030161030162
+wide_push=01000000000000000000000002000000000000000200000019$wide_insert
+
+# answer_of COUNT, entry_of NUMBER CHANGESET: the beginning of an answer of so many entries from version 0 on, and an entry of replica 0.
+answer_of() {
+    printf '140000000000000000%08x' "$1"
+}
+
+entry_of() {
+    printf '0000000000%016x%08x%s' "$1" "$((${#2} / 2))" "$2"
+}
+
+wide_hub="$dir/wide-hub"
+gives 'a hub with a column' "$accepted\n$widened\n" "$push\n$widen\n" hub --file "$wide_hub" t1:10
+gives 'a hub with a column, second run' "$widened\n$accepted\n131f\n110000000000000000000000020000000000000003\n132e\n" \
+    "$widen\n$push\n01000000080000000000000001000000000000000200000016$insert\n$wide_push\n040000000000000002000000000000000300000003000000027431\n" hub --file "$wide_hub" t1:10
+for words in t1:100 t1:1000 t1:1 t1:11 t2:10; do
+    refuses "a hub with a column by $words" 'sync: Mismatch' "$widen\n" hub --file "$wide_hub" "$words"
+done
+gives 'a hub with a column, third run' "$(answer_of 3)$(entry_of 1 $insert)$wider$(entry_of 2 $wide_insert)\n" \
+    '020000000000000000ffffffff\n' hub --file "$wide_hub" t1:10
+
+wide_node="$dir/wide-node"
+gives 'a node with a column' 'ok\nok\ntaken 1 version 1\nrefused Width\nok\nreplica 0 version 1 pending 2 flight 0\nrow t1 1 t=v2 null\nrow t1 2 t=x 5\n' \
+    "edit insert t1 1 t=v1\nedit update t1 1 t=v2\nanswer $(answer_of 1)$wider -\nedit insert t1 2 t=x\nedit insert t1 2 t=x 5\ndump\n" node "$wide_node" 0 t1:10
+for words in t1:10 t1:100 t1:1; do
+    gives "a node with a column by $words" 'replica 0 version 1 pending 2 flight 0\nrow t1 1 t=v2 null\nrow t1 2 t=x 5\n' 'dump\n' node "$wide_node" 0 "$words"
+done
+for words in t1:1000 t1:11 t1:101 t1:01 t2:10 't1:10 t2:1' 't2:1 t1:10'; do
+    refuses "a node with a column by $words" 'sync: Mismatch' 'dump\n' node "$wide_node" 0 $words
+done
+refuses 'a node with a column, of another id' 'sync: Mismatch' 'dump\n' node "$wide_node" 1 t1:10
+refuses 'a node with a column, as a hub' 'sync: Mismatch' '' hub --file "$wide_node" t1:10
+refuses 'a hub with a column, as a node' 'sync: Mismatch' 'dump\n' node "$wide_hub" 0 t1:10
+
 # ---- what they left, in the shell
 
 shell=''
@@ -119,7 +161,7 @@ selects() {
 key1=010000000000000001
 key2=010000000000000002
 if [ -n "$shell" ]; then
-    for file in "$node" "$hub"; do
+    for file in "$node" "$hub" "$wide_node" "$wide_hub"; do
         cp "$file" "$dir/copy"
         [ ! -f "$file-wal" ] || cp "$file-wal" "$dir/copy-wal"
         selects "$file" "$dir/copy" ok 'PRAGMA integrity_check'
@@ -135,6 +177,20 @@ version|0000000000000001' 'SELECT name, hex(body) FROM meta ORDER BY name'
     selects 'the log of the hub' "$hub" "0|0|1|00$(printf %s $insert | tr a-f A-F)" 'SELECT version, origin, number, hex(body) FROM log'
     selects 'the rows of the hub' "$hub" "0|${key1}|${key1}03027631" 'SELECT tab, hex(key), hex(body) FROM rows'
     selects 'the values of the hub' "$hub" 'catalog|54020100743100' 'SELECT name, hex(body) FROM meta'
+    selects 'the rows of the node with a column' "$wide_node" "0|${key1}|${key1}0302763205
+0|${key2}|${key2}030178010000000000000005" 'SELECT tab, hex(key), hex(body) FROM rows ORDER BY key'
+    selects 'the pending changes of the node with a column' "$wide_node" "0|${key1}|1200${key1}0302763205
+0|${key2}|1200${key2}030178010000000000000005" 'SELECT tab, hex(key), hex(body) FROM pending ORDER BY key'
+    selects 'the values of the node with a column' "$wide_node" 'catalog|5403010000743100
+id|00000000
+number|0000000000000000
+version|0000000000000001' 'SELECT name, hex(body) FROM meta ORDER BY name'
+    selects 'the log of the hub with a column' "$wide_hub" "0|0|1|00$(printf %s $insert | tr a-f A-F)
+1|4294967295|1|01000000037431
+2|0|2|00${wide}1200${key2}030161030162" 'SELECT version, origin, number, hex(body) FROM log'
+    selects 'the rows of the hub with a column' "$wide_hub" "0|${key1}|${key1}0302763105
+0|${key2}|${key2}030161030162" 'SELECT tab, hex(key), hex(body) FROM rows ORDER BY key'
+    selects 'the values of the hub with a column' "$wide_hub" 'catalog|54020100743100' 'SELECT name, hex(body) FROM meta'
 fi
 
 # ---- a larger file of each, to be damaged
@@ -151,6 +207,14 @@ run "edit update t1 7 t=changed\nedit delete t1 8\n" node "$good" 0 t1:10
 log="$dir/log"
 run "$flight\n" hub --file "$log" t1:10
 [ "$status" -eq 0 ] || tell 'a larger hub' "ended with $status, told '$told'"
+
+# The same behind an entry that gave the table a column.
+cp "$good" "$dir/good-wide"
+run "answer $(answer_of 1)$wider -\n" node "$dir/good-wide" 0 t1:10
+[ "$status" -eq 0 ] && [ "$written" = 'taken 1 version 1' ] || tell 'a larger node with a column' "ended with $status, printed '$written', told '$told'"
+cp "$log" "$dir/log-wide"
+run "$widen\n" hub --file "$dir/log-wide" t1:10
+[ "$status" -eq 0 ] && [ "$written" = "$widened" ] || tell 'a larger hub with a column' "ended with $status, printed '$written', told '$told'"
 
 # both NAME FILE MAKER..: as a node and as a hub, each on a file that is made anew.
 both() {
@@ -205,14 +269,15 @@ make_changed() {
     cp "$from" "$1"
     printf "\\x$(printf %02x "$byte")" | dd of="$1" bs=1 seek="$place" conv=notrunc 2> /dev/null
 }
-for count in $(seq 1 200); do
+for count in $(seq 1 400); do
     from="$good"
     [ $((count % 2)) -eq 0 ] || from="$log"
+    [ "$count" -le 200 ] || from="$from-wide"
     draw "$(stat -c %s "$from")"
     was="$(od -An -tu1 -j "$place" -N 1 "$from" | tr -d ' ')"
     byte=$(((was + 1 + count % 255) % 256))
     make_changed "$dir/bad"
-    if [ "$from" = "$good" ]; then
+    if [ "${from%-wide}" = "$good" ]; then
         input='dump\n'
         looks "node with byte $place changed to $byte" "$dir/bad" node "$dir/bad" 0 t1:10
     else
@@ -360,6 +425,35 @@ if [ -n "$shell" ]; then
     holds 'a row of no table' Damaged "INSERT INTO rows VALUES (1, x'$key1', x'${key1}03027631')"
     holds 'a pending change' Damaged "INSERT INTO pending VALUES (0, x'$key1', x'1200${key1}03027631')"
     holds 'a pending change of no table' Damaged "INSERT INTO pending VALUES (1, x'$key1', x'1200${key1}03027631')"
+
+    # Entries that give a table columns, and the rows that these make: with others before and behind, of any origin, alone, and two of one table.
+    columns() { printf '%s' "INSERT INTO log VALUES ($1, 4294967295, $2, x'01$3');"; }
+    told_columns() { printf '01ffffffff%016x%08x%s' "$1" $((${#2} / 2)) "$2"; }
+    wide_row="INSERT INTO rows VALUES (0, x'$key1', x'${key1}0302763105');"
+    update=${wide}1700${key1}0005000003027632
+    opens 'a column' "$(answer_of 2)$(entry_of 1 $insert)$(told_columns 1 000000037431)" 'rows meta log pending' "$four $value $entry $(columns 1 1 000000037431) $wide_row"
+    opens 'a column, and a change of it' "$(answer_of 3)$(entry_of 1 $insert)$(told_columns 1 000000037431)$(entry_of 2 $update)" 'rows meta log pending' \
+        "$four $value $entry $(columns 1 1 000000037431) INSERT INTO log VALUES (2, 0, 2, x'00$update'); INSERT INTO rows VALUES (0, x'$key1', x'${key1}0302763103027632');"
+    opens 'a column of any origin' "$(answer_of 1)0100000007ffffffffffffffff00000006000000037431" 'rows meta log pending' \
+        "$four $value INSERT INTO log VALUES (0, 7, -1, x'01000000037431');"
+    opens 'columns twice' "$(answer_of 2)$(told_columns 5 000000037431)$(told_columns 5 000007d07431)" 'rows meta log pending' \
+        "$four $value $(columns 0 5 000000037431) $(columns 1 5 000007d07431)"
+
+    # Rows that the log doesn't make: without the column, with one more, and with it where no entry gave it. Words of the columns that it got.
+    finds 'a column that its row has not' Damaged "$four $value $entry $(columns 1 1 000000037431) $row"
+    finds 'a column less than its row has' Damaged "$four $value $entry $(columns 1 1 000000037431) INSERT INTO rows VALUES (0, x'$key1', x'${key1}030276310505');"
+    finds 'a column that no entry gave' Damaged "$four $value $entry $wide_row"
+    finds 'a column in its words' Mismatch "$four INSERT INTO meta VALUES ('catalog', x'$wide'); $entry $(columns 1 1 000000037431) $wide_row"
+
+    # Entries of the columns on the other side, and entries that give none.
+    holds 'a change of before behind a column' Damaged "$(columns 0 1 000000037431) INSERT INTO log VALUES (1, 0, 1, x'00$insert'); $wide_row"
+    holds 'a change of a column before it' Damaged "INSERT INTO log VALUES (0, 0, 1, x'00${wide}1200${key1}0302763105'); $(columns 1 1 000000037431) $wide_row"
+    for body in '' 00 000000 00000003 0000000374 00000003743100 000000037439 000000035431 00000003ff 000000007431 000000017431 000000027431 000007d17431 ffffffff7431; do
+        holds "a column by $body" Damaged "$(columns 0 1 "$body")"
+        holds "a column twice, then by $body" Damaged "$(columns 0 1 000000037431) $(columns 1 2 "$body")"
+    done
+    holds 'three columns twice' Damaged "$(columns 0 1 000000037431) $(columns 1 2 000000037431)"
+    holds 'an entry of kind 2' Damaged "INSERT INTO log VALUES (0, 7, 1, x'02000000037431')"
 fi
 
 if [ "$failed" -eq 0 ]; then

@@ -1,7 +1,7 @@
 #!/usr/bin/env bash
 # Runs the built program `sync` as a replica on a file, `node FILE ID TABLE..`, each case on a file of its own, and compares what is printed
 # with what it has to be: edits, and what is pending then; another's entries over own edits, one by one and as one changeset, with a push under
-# way and without; answers of the hub; entries that aren't taken; lines that are refused or can't be read; and files whose values were changed by the `sqlite3` shell,
+# way and without; entries that give a table more columns, and the tables by which such a file is opened; answers of the hub; entries that aren't taken; lines that are refused or can't be read; and files whose values were changed by the `sqlite3` shell,
 # where that can be had.
 # The same of a replica that answers each line as it comes, `node --follow FILE ID TABLE..`: its lines, clashes that are seen before they are decided, and pipes on
 # which it has to answer each line before the next one is written.
@@ -36,6 +36,15 @@ push() {
 # entry ORIGIN NUMBER CHANGESET: an entry of an answer.
 entry() {
     printf '00%08x%016x%08x%s' "$1" "$2" "$((${#3} / 2))" "$3"
+}
+
+# wider NUMBER WIDTH TABLE: an entry that gives a table, its name in hex, so many columns. wider_by ORIGIN NUMBER WIDTH TABLE: the same of another origin.
+wider() {
+    wider_by 4294967295 "$@"
+}
+
+wider_by() {
+    printf '01%08x%016x%08x%08x%s' "$1" "$2" "$((4 + ${#4} / 2))" "$3" "$4"
 }
 
 # from FIRST COUNT: the beginning of an answer of so many entries from a version on.
@@ -333,6 +342,174 @@ goes
 say 'catch 1' 0300000007000000000000000300000001
 goes
 
+# ---- entries that give a table more columns
+
+# t1 with three columns and with five, and t2 with six.
+T1=7431
+T2=7432
+W1=5403010000743100
+W5=54050100000000743100
+W2=5406010000000000743200
+
+# What is pending, and what is under way, has the new columns: nothing; a row; an INSERT, an UPDATE and a DELETE that are pending.
+leave << END
+||||$(from 0 1)$(wider 1 3 $T1)||taken 1 version 1|version 1 pending 0 flight 0||
+$H1$I$K1$V1||||$(from 1 1)$(wider 1 3 $T1)||taken 1 version 2|version 2 pending 0 flight 0|t1 1 t=v1 null|
+|||insert t1 1 t=v1|$(from 0 1)$(wider 1 3 $T1)||taken 1 version 1|version 1 pending 1 flight 0|t1 1 t=v1 null|$W1$I$K1${V1}05
+$H1$I$K1$V1|||update t1 1 t=v2|$(from 1 1)$(wider 1 3 $T1)||taken 1 version 2|version 2 pending 1 flight 0|t1 1 t=v2 null|$W1$U$K1$V1$N$N$V2$N
+$H1$I$K1$V1|||delete t1 1|$(from 1 1)$(wider 1 3 $T1)||taken 1 version 2|version 2 pending 1 flight 0||$W1$D$K1${V1}05
+END
+
+# Under way: an INSERT, with an UPDATE and another INSERT behind it, and taken back; a DELETE, and with an INSERT behind it; an UPDATE, and taken back; and
+# what is of another table.
+leave << END
+|insert t1 1 t=v1|$H1$I$K1$V1||$(from 0 1)$(wider 1 3 $T1)||taken 1 version 1|version 1 pending 1 flight 0|t1 1 t=v1 null|$W1$I$K1${V1}05
+|insert t1 1 t=v1|$H1$I$K1$V1|update t1 1 t=v2;insert t1 2 t=x|$(from 0 1)$(wider 1 3 $T1)||taken 1 version 1|version 1 pending 2 flight 0|t1 1 t=v2 null;t1 2 t=x null|$W1$I$K1${V2}05$I$K2${X}05
+|insert t1 1 t=v1|$H1$I$K1$V1|delete t1 1|$(from 0 1)$(wider 1 3 $T1)||taken 1 version 1|version 1 pending 0 flight 0||
+$H1$I$K1$V1|delete t1 1|$H1$D$K1$V1||$(from 1 1)$(wider 1 3 $T1)||taken 1 version 2|version 2 pending 1 flight 0||$W1$D$K1${V1}05
+$H1$I$K1$V1|delete t1 1|$H1$D$K1$V1|insert t1 1 t=v9|$(from 1 1)$(wider 1 3 $T1)||taken 1 version 2|version 2 pending 1 flight 0|t1 1 t=v9 null|$W1$U$K1$V1$N$N$V9$N
+$H1$I$K1$V1|delete t1 1|$H1$D$K1$V1|insert t1 1 t=v1|$(from 1 1)$(wider 1 3 $T1)||taken 1 version 2|version 2 pending 0 flight 0|t1 1 t=v1 null|
+$H1$I$K1$V1|update t1 1 t=v2|$H1$U$K1$V1$N$V2||$(from 1 1)$(wider 1 3 $T1)||taken 1 version 2|version 2 pending 1 flight 0|t1 1 t=v2 null|$W1$U$K1$V1$N$N$V2$N
+$H1$I$K1$V1|update t1 1 t=v2|$H1$U$K1$V1$N$V2|update t1 1 t=v1|$(from 1 1)$(wider 1 3 $T1)||taken 1 version 2|version 2 pending 0 flight 0|t1 1 t=v1 null|
+$H1$I$K1$V1|update t1 1 t=v2|$H1$U$K1$V1$N$V2|delete t1 1|$(from 1 1)$(wider 1 3 $T1)||taken 1 version 2|version 2 pending 1 flight 0||$W1$D$K1${V1}05
+$H1$I$K1$V1|insert t2 1 t=b0 t=c0 t=d0|$row0|update t1 1 t=v2|$(from 1 1)$(wider 1 3 $T1)||taken 1 version 2|version 2 pending 2 flight 0|t1 1 t=v2 null;t2 1 t=b0 t=c0 t=d0|$W1$U$K1$V1$N$N$V2$N$row0
+$row0|||insert t1 1 t=v1;update t2 1 t=b1 - t=d1|$(from 1 1)$(wider 1 6 $T2)||taken 1 version 2|version 2 pending 2 flight 0|t1 1 t=v1;t2 1 t=b1 t=c0 t=d1 null null|$H1$I$K1$V1$W2$U$K1$B0$N$D0$N$N$N$B1$N$D1$N$N
+END
+
+# One table twice, and two tables; entries of the old columns before it and of the new ones behind it; and one of the others, on each side. A push that is told
+# before it is confirmed with the columns that it had.
+leave << END
+|||insert t1 1 t=v1|$(from 0 2)$(wider 1 3 $T1)$(wider 1 5 $T1)||taken 2 version 2|version 2 pending 1 flight 0|t1 1 t=v1 null null null|$W5$I$K1${V1}050505
+$row0|||insert t1 1 t=v1|$(from 1 2)$(wider 1 3 $T1)$(wider 2 6 $T2)||taken 2 version 3|version 3 pending 1 flight 0|t1 1 t=v1 null;t2 1 t=b0 t=c0 t=d0 null null|$W1$I$K1${V1}05
+||||$(from 0 4)$(entry 9 1 $H1$I$K1$V1)$(wider 1 3 $T1)$(entry 9 2 $W1$U$K1${N}05$N$N$V2)$(entry 9 3 $W1$I$K2${N}05)||fault BadEntry after 3|version 3 pending 0 flight 0|t1 1 t=v1 t=v2|
+||||$(from 0 4)$(entry 9 1 $H1$I$K1$V1)$(wider 1 3 $T1)$(entry 9 2 $W1$U$K1${N}05$N$N$V2)$(entry 9 3 $W1$I$K2$V9$V1)||taken 4 version 4|version 4 pending 0 flight 0|t1 1 t=v1 t=v2;t1 2 t=v9 t=v1|
+||||$(from 0 2)$(wider 1 3 $T1)$(entry 9 1 $H1$I$K1$V1)||fault BadEntry after 1|version 1 pending 0 flight 0||
+||||$(from 0 2)$(entry 9 1 $W1$I$K1$V1$V2)$(wider 1 3 $T1)||fault BadEntry after 0|version 0 pending 0 flight 0||
+|insert t1 1 t=v1|$H1$I$K1$V1|update t1 1 t=v9|$(from 0 2)$(entry 7 1 $H1$I$K1$V1)$(wider 1 3 $T1)||taken 2 version 2|version 2 pending 1 flight 0|t1 1 t=v9 null|$W1$U$K1$V1$N$N$V9$N
+|insert t1 1 t=v1|$H1$I$K1$V1||$(from 0 2)$(wider 1 3 $T1)$(entry 7 1 $W1$I$K1${V1}05)|k|taken 2 version 2|version 2 pending 0 flight 0|t1 1 t=v1 null|
+END
+
+# A clash in front of it is kept, taken and stopped at, and it asks nobody; a clash behind it is over the own change with the new column, and the stop leaves
+# what was taken. Entries told together are of the tables there.
+leave << END
+$H1$I$K1$V1|||update t1 1 t=y|$(from 1 2)$(entry 9 1 $H1$U$K1$V1$N$X)$(wider 1 3 $T1)|k|taken 2 version 3|version 3 pending 1 flight 0|t1 1 t=y null|$W1$U$K1$X$N$N$Y$N
+$H1$I$K1$V1|||update t1 1 t=y|$(from 1 2)$(entry 9 1 $H1$U$K1$V1$N$X)$(wider 1 3 $T1)|t|taken 2 version 3|version 3 pending 0 flight 0|t1 1 t=x null|
+$H1$I$K1$V1|||update t1 1 t=y|$(from 1 2)$(entry 9 1 $H1$U$K1$V1$N$X)$(wider 1 3 $T1)||stopped 0 version 1|version 1 pending 1 flight 0|t1 1 t=y|$H1$U$K1$V1$N$Y
+$H1$I$K1$V1|||update t1 1 t=y|$(from 1 2)$(wider 1 3 $T1)$(entry 9 1 $W1$U$K1$V1$N$N$X$N)|k|taken 2 version 3|version 3 pending 1 flight 0|t1 1 t=y null|$W1$U$K1$X$N$N$Y$N
+$H1$I$K1$V1|||update t1 1 t=y|$(from 1 2)$(wider 1 3 $T1)$(entry 9 1 $W1$U$K1$V1$N$N$X$N)||stopped 1 version 2|version 2 pending 1 flight 0|t1 1 t=y null|$W1$U$K1$V1$N$N$Y$N
+$H1$I$K1$V1|||update t1 1 t=y|$(from 1 2)$(wider 1 3 $T1)$(entry 9 1 $W1$U$K1${N}05$N$N$X)||taken 2 version 3|version 3 pending 1 flight 0|t1 1 t=y t=x|$W1$U$K1$V1$N$N$Y$N
+$H1$I$K1$V1|update t1 1 t=y|$H1$U$K1$V1$N$Y||$(from 1 2)$(wider 1 3 $T1)$(entry 9 1 $W1$D$K1${V1}05)|k|taken 2 version 3|version 3 pending 1 flight 0|t1 1 t=y null|$W1$I$K1${Y}05
+END
+
+# What gives no columns: bytes that end early; a name that isn't UTF-8; tables that aren't there; a width that isn't above the present one, or above 2,000. What was
+# told before it stays, also of the columns, and what stands behind it isn't taken.
+while IFS='|' read -r body; do
+    bad="$(printf '01ffffffff%016x%08x%s' 2 $((${#body} / 2)) "$body")"
+    leaves '' '' '' 'insert t1 2 t=x' "$(from 0 3)$(entry 9 1 $H1$I$K1$V1)$bad$(wider 3 3 $T1)" '' 'fault BadEntry after 1' 'version 1 pending 1 flight 0' \
+        't1 1 t=v1;t1 2 t=x' $H1$I$K2$X
+    leaves '' 'insert t1 2 t=x' $H1$I$K2$X '' "$(from 0 2)$(wider 1 3 $T1)$bad" '' 'fault BadEntry after 1' 'version 1 pending 1 flight 0' 't1 2 t=x null' $W1$I$K2${X}05
+done << END
+
+000000
+00000003
+0000000374
+00000003ff
+000000037431ff
+0000000374310000
+00000003743100
+000000037439
+000000035431
+00000003743131
+00000000$T1
+00000001$T1
+00000002$T1
+00000003c080
+000007d1$T1
+ffffffff$T1
+00000004$T2
+END
+# Each of its own: three columns are above two and not above three.
+leaves '' '' '' '' "$(from 0 2)$(wider 1 3 $T1)$(wider 2 3 $T1)" '' 'fault BadEntry after 1' 'version 1 pending 0 flight 0' '' ''
+leaves '' '' '' '' "$(from 0 2)$(wider 1 2000 $T1)$(wider 2 2001 $T1)" '' 'fault BadEntry after 1' 'version 1 pending 0 flight 0' '' ''
+
+# It is told for its version alone: before it, it is passed over, and behind it, it isn't reached. Another origin gives columns too, also the replica's own
+# with the number of what is under way, which then is pending again; and a push of the origin of such entries is another's.
+leave << END
+$H1$I$K1$V1||||$(from 0 2)$(wider 1 9 $T1)$(wider 2 3 $T1)||taken 1 version 2|version 2 pending 0 flight 0|t1 1 t=v1 null|
+||||$(from 1 1)$(wider 1 3 $T1)||taken 0 version 0|version 0 pending 0 flight 0||
+$H1$I$K1$V1||||$(from 1 1)$(wider_by 9 1 3 $T1)||taken 1 version 2|version 2 pending 0 flight 0|t1 1 t=v1 null|
+|insert t1 1 t=v1|$H1$I$K1$V1||$(from 0 1)$(wider_by 7 1 3 $T1)||taken 1 version 1|version 1 pending 1 flight 0|t1 1 t=v1 null|$W1$I$K1${V1}05
+|||insert t1 1 t=v1|$(from 0 1)$(wider_by 7 1 3 $T1)||taken 1 version 1|version 1 pending 1 flight 0|t1 1 t=v1 null|$W1$I$K1${V1}05
+||||$(from 0 1)$(entry 4294967295 1 $H1$I$K1$V1)||taken 1 version 1|version 1 pending 0 flight 0|t1 1 t=v1|
+END
+
+# In one run: edits of either width, the push behind it, what comes late, entries told together, and the answer again.
+begins
+say 'edit insert t1 1 t=v1' ok
+say push "$(push 1 0 $H1$I$K1$V1)"
+say 'edit insert t1 2 t=x null' 'refused Width'
+say "answer $(from 0 1)$(wider 1 3 $T1) s" 'taken 1 version 1'
+say "answer $(accepted 7 1 1) -" ignored
+say resend 'refused Nothing'
+say 'edit insert t1 2 t=x' 'refused Width'
+say 'edit insert t1 2 t=x null 5' 'refused Width'
+say 'edit insert t1 2 t=x null' ok
+say 'edit update t1 1 t=v2' 'refused Width'
+say 'edit update t1 1 - t=y' ok
+say 'edit delete t1 2 t=x null' 'refused Width'
+say_dump 'version 1 pending 2 flight 0' 't1 1 t=v1 t=y;t1 2 t=x null'
+say push "$(push 2 1 $W1$I$K1$V1$Y$I$K2${X}05)"
+say "answer $(from 0 1)$(wider 1 3 $T1) -" 'taken 0 version 1'
+say "answer $(accepted 7 2 2) -" 'accepted 2'
+say "answer $(merged 2 4 $H1$U$K1$V1$N$V9) -" 'fault BadEntry after 0'
+say "answer $(merged 2 4 $W1$U$K1$V1$N$N$V9$N) -" 'taken 2 version 4'
+say 'catch 10' 030000000700000000000000040000000a
+say 'edit delete t1 2' ok
+say push "$(push 3 4 $W1$D$K2${X}05)"
+say_dump 'version 4 pending 0 flight 1' 't1 1 t=v9 t=y'
+goes
+say 'edit insert t1 3 null' 'refused Width'
+say resend "$(push 3 4 $W1$D$K2${X}05)"
+say "answer $(from 4 1)$(wider 2 5 $T1) -" 'taken 1 version 5'
+say push "$(push 4 5 $W5$D$K2${X}050505)"
+goes
+
+# ---- the words by which a file with wider tables is opened: with the columns that they had, or any of these in front, and those that they have; but not with
+# more, with other key columns, or tables in another order, of another number or name. Of a file that no entry widened the same holds
+
+# opened TABLES: by these words the file of replica 7 shows its rows. opened_not: it isn't opened, and is as it was.
+opened() {
+    local tables="$1"
+    say_dump 'version 2 pending 1 flight 0' 't1 1 t=v1 null;t1 2 t=x null'
+    goes
+}
+
+opened_not() {
+    local before
+    before="$(cksum < "$file")"
+    expect 1 'dump\n' '' 'sync: Mismatch\n' node "$file" 7 $1
+    [ "$(cksum < "$file")" = "$before" ] || tell 'was refused, and yet written' node "$file" 7 $1
+}
+
+begins
+say "answer $(others 0 $H1$I$K1$V1) s" 'taken 1 version 1'
+say 'edit insert t1 2 t=x' ok
+say "answer $(from 1 1)$(wider 1 3 $T1) s" 'taken 1 version 2'
+goes
+for words in 't1:10 t2:1000' 't1:100 t2:1000' 't1:1 t2:1000' 't1:1 t2:1' 't1:100 t2:100'; do
+    opened "$words"
+done
+for words in 't1:1000 t2:1000' 't1:100 t2:10000' 't1:11 t2:1000' 't1:101 t2:1000' 't1:01 t2:1000' 't2:1000 t1:10' 't2:1000 t1:100' t1:10 't1:10 t2:1000 t3:1' 't1:10 t3:1000' \
+    'T1:10 t2:1000'; do
+    opened_not "$words"
+done
+expect 1 'dump\n' '' 'sync: Mismatch\n' node "$file" 8 $tables
+expect 1 '' '' 'sync: Mismatch\n' hub --file "$file" t1:100 t2:1000
+# Words of more columns lay out a new file with them, which no entry of fewer is for.
+begins
+expect 0 "answer $(others 0 $H1$I$K1$V1) -\nanswer $(from 0 1)$(wider 1 3 $T1) -\nanswer $(from 0 1)$(wider 1 4 $T1) -\ndump\n" \
+    'fault BadEntry after 0\nfault BadEntry after 0\ntaken 1 version 1\nreplica 7 version 1 pending 0 flight 0\n' '' node "$file" 7 t1:100
+
 # ---- short answers, while push 1 is under way with an edit behind it
 
 # It was taken; another's was, one with another number, one at a later version or at none; nothing is under way; it came late; it was
@@ -482,9 +659,11 @@ prints() {
 prints 'answer 99 -\nanswer 1100 -\nanswer 120000000000000001ff -\n' 'refused BadTag\nrefused Truncated\nrefused TooLong\n'
 prints "answer 15 -\nanswer $(printf '15%046d' 0) -\nanswer $(printf '15%040d00000001' 0) -\nanswer $(merged_for 0 0 0 '')ff -\nanswer $(merged_for 0 0 0 50)ff -\n" \
     'refused Truncated\nrefused Truncated\nrefused Truncated\nrefused TooLong\nrefused TooLong\n'
-# An entry that gives a table more columns, which no replica takes yet, behind one that it takes; and one of no kind.
+# An entry of no kind, behind one that gives a table more columns: it is no answer.
 prints "answer $(from 0 2)$(entry 9 1 $H1$I$K1$V1)01ffffffff000000000000000100000006000000037431 -\nanswer $(from 1 1)02 -\ndump\n" \
-    'fault BadEntry after 1\nrefused BadKind\nreplica 0 version 1 pending 0 flight 0\nrow t1 1 t=v1\n'
+    'taken 2 version 2\nrefused BadKind\nreplica 0 version 2 pending 0 flight 0\nrow t1 1 t=v1 null\n'
+prints "answer $(from 0 2)01ffffffff00000000000000010000000600000003743102 -\nanswer $(from 0 1)01ffffffff0000000000000001000000060000000374 -\nanswer $(from 0 1)$(wider 1 3 7431)00 -\ndump\n" \
+    'refused BadKind\nrefused Truncated\nrefused TooLong\nreplica 0 version 0 pending 0 flight 0\n'
 # Entries that aren't defined, alone and behind one that is; and a push that is said to be an entry it can't be.
 prints "edit insert t1 1 t=v1\nanswer $(others 0 $H1$D$K1$V1) -\ndump\n" \
     'ok\nfault BadEntry after 0\nreplica 0 version 0 pending 1 flight 0\nrow t1 1 t=v1\n'
@@ -701,6 +880,36 @@ output=''
 asks place 'replica 7 version 5 pending 0 flight 0'
 follows "$input" "$output"
 
+# A table that gets columns in one run: what is shown, several edits as one request, and clashes behind it, of which one is stopped at with the columns taken.
+begins
+W4=540401000000743100
+asks 'edit insert t1 1 t=v1' ok
+asks push "$(push 1 0 $H1$I$K1$V1)"
+asks "answer $(from 0 1)$(wider 1 3 $T1) s" 'taken 1 version 1'
+asks pending 'table t1 100' 'insert 0 1 t=v1 null'
+asks 'rows t1' 'row t1 1 t=v1 null'
+asks 'row t1 1' 'row t1 1 t=v1 null'
+asks 'edits 2\nedit insert t1 3 t=x null\nedit insert t1 2 t=x' 'refused 2 Width'
+asks 'edits 2\nedit insert t1 2 t=x 5\nedit update t1 1 - 6' ok
+asks pending 'table t1 100' 'insert 0 1 t=v1 6' 'insert 0 2 t=x 5'
+asks "answer $(from 1 1)$(entry 9 1 $W1$I$K2$V9$V9) s" 'stopped 0 version 1 clash conflict t1 insert 0 2 t=v9 t=v9 row 2 t=x 5 own insert 0 2 t=x 5 lawful kt'
+asks "answer $(from 1 1)$(entry 9 1 $W1$I$K2$V9$V9) ks" 'taken 1 version 2'
+asks pending 'table t1 100' 'insert 0 1 t=v1 6' 'update 0 2 t=v9 t=v9 > - t=x 5'
+both="$(from 2 2)$(wider 2 4 $T1)$(entry 9 2 $W4$U$K2$V9$N$N$N$V1$N$N)"
+asks "answer $both s" 'stopped 1 version 3 clash data t1 update 0 2 t=v9 - - > - t=v1 - - row 2 t=x 5 null own update 0 2 t=v9 t=v9 - > - t=x 5 - lawful kt'
+asks dump 'replica 7 version 3 pending 2 flight 0' 'row t1 1 t=v1 6 null' 'row t1 2 t=x 5 null'
+asks "answer $both ts" 'taken 1 version 4'
+asks pending 'table t1 1000' 'insert 0 1 t=v1 6 null' 'update 0 2 - t=v9 - > - - 5 -'
+follows "$input" "$output"
+input=''
+output=''
+asks dump 'replica 7 version 4 pending 2 flight 0' 'row t1 1 t=v1 6 null' 'row t1 2 t=v1 5 null'
+asks pending 'table t1 1000' 'insert 0 1 t=v1 6 null' 'update 0 2 - t=v9 - > - - 5 -'
+asks 'row t1 2' 'row t1 2 t=v1 5 null'
+asks 'edit delete t1 2' ok
+asks push "$(push 2 4 ${W4}$I$K1${V1}01000000000000000605$D$K2$V1${V9}05)"
+follows "$input" "$output"
+
 # On pipes each line is answered before the next one is written, the file is held meanwhile, and the end of the input ends it.
 begins
 mkfifo "$dir/lines" "$dir/replies"
@@ -852,6 +1061,51 @@ END
     done
     kept $second
     opens_not 8 Mismatch
+
+    # What is kept behind an entry that gave the table a column: one with an own number too, where what is under way has no changes. A second run leaves it so.
+    wide_values="catalog|$W1
+id|00000007
+number|0000000000000001
+version|0000000000000001"
+    for flight in "$H1$I$K1$V1" ''; do
+        changes "UPDATE meta SET body = x'0000000000000001$flight' WHERE name = 'flight'"
+        say "answer $(from 0 1)$(wider_by 7 1 3 $T1) s" 'taken 1 version 1'
+        goes
+        for run in first second; do
+            shows "the values of the $run run" 'SELECT name, lower(hex(body)) FROM meta ORDER BY name' "$wide_values"
+            shows "the rows of the $run run" 'SELECT tab, lower(hex(key)), lower(hex(body)) FROM rows ORDER BY key' "0|$K1|$K1${V1}05
+0|$K2|$K2${X}05"
+            shows "the pending changes of the $run run" 'SELECT tab, lower(hex(key)), lower(hex(body)) FROM pending ORDER BY key' \
+                "${flight:+0|$K1|$I$K1${V1}05
+}0|$K2|$I$K2${X}05"
+            shows "the log of the $run run" 'SELECT count(*) FROM log' 0
+            say_dump "version 1 pending $((${#flight} > 0 ? 2 : 1)) flight 0" 't1 1 t=v1 null;t1 2 t=x null'
+            goes
+        done
+    done
+
+    # A row, a pending change and a push under way of the columns before; rows of more columns than the tables; tables with another key column behind them.
+    "$shell" "$file" 'PRAGMA wal_checkpoint(TRUNCATE)' > "$dir/shell" 2>&1
+    cp "$file" "$dir/filled"
+    while read -r told sql; do
+        changes "$sql"
+        opens_not 7 "$told"
+    done << END
+Damaged UPDATE rows SET body = x'$K1$V1' WHERE key = x'$K1'
+Damaged UPDATE rows SET body = x'$K1${V1}0505' WHERE key = x'$K1'
+Damaged UPDATE pending SET body = x'$I$K2$X' WHERE key = x'$K2'
+Damaged UPDATE pending SET body = x'$I$K2${X}0505' WHERE key = x'$K2'
+Damaged INSERT INTO meta VALUES ('flight', x'0000000000000001$H1$I$K3$X')
+Damaged UPDATE meta SET body = x'$H1' WHERE name = 'catalog'
+Damaged UPDATE meta SET body = x'$W5' WHERE name = 'catalog'
+Damaged UPDATE meta SET body = x'${W1%00}' WHERE name = 'catalog'
+Mismatch UPDATE meta SET body = x'5403010001743100' WHERE name = 'catalog'
+Mismatch UPDATE meta SET body = x'540101743100' WHERE name = 'catalog'
+END
+    changes "UPDATE meta SET body = x'ffffffffffffffff' WHERE name = 'version'"
+    say "answer 14ffffffffffffffff00000001$(wider 2 5 $T1) -" 'fault BadEntry after 0'
+    say_dump 'version 18446744073709551615 pending 1 flight 0' 't1 1 t=v1 null;t1 2 t=x null'
+    goes
 fi
 
 if [ "$failed" -eq 0 ]; then

@@ -1,7 +1,7 @@
 #!/bin/sh
 # Runs the built program `sync` on what a person types, and compares each run's status, output and errors with what they have to
-# be: a hub's sessions, each request and changeset that it refuses, each front of requests and of a pushed changeset, long lines, a
-# long log; the tools by their words; table words that are read and that are refused; command lines that aren't taken; the help; and
+# be: a hub's sessions, tables that get more columns, each request and changeset that it refuses, each front of requests and of a pushed changeset,
+# long lines, a long log; the tools by their words; table words that are read and that are refused; command lines that aren't taken; the help; and
 # reads and writes that fail in mid-stream. One case is one run.
 # Usage: bench/check_sessions.sh PROGRAM
 # A read that fails is that of a terminal whose other side is gone, for which it wants python3 (as `rt` does).
@@ -47,6 +47,25 @@ entry() {
 # merged ORIGIN FIRST NEXT CHANGESET: the answer to that replica's catch: what the entries from one version to another do together.
 merged() {
     printf '15%08x%016x%016x%08x%s' "$1" "$2" "$3" "$((${#4} / 2))" "$4"
+}
+
+# widen NUMBER BASE WIDTH TABLE: a table, its name in hex, is to have so many columns.
+widen() {
+    printf '04%016x%016x%08x%08x%s' "$1" "$2" "$3" "$((${#4} / 2))" "$4"
+}
+
+# widened NUMBER VERSION, wider NUMBER WIDTH TABLE: the answer that it was accepted, and the entry that it became.
+widened() {
+    accepted 4294967295 "$1" "$2"
+}
+
+wider() {
+    printf '01ffffffff%016x%08x%08x%s' "$1" "$((4 + ${#3} / 2))" "$2" "$3"
+}
+
+# many COUNT HEX: the bytes so many times.
+many() {
+    awk -v count="$1" -v bytes="$2" 'BEGIN { while (count-- > 0) printf "%s", bytes }'
 }
 
 # answers OUTPUT LINE..: a hub of t1 answers these lines so.
@@ -233,6 +252,178 @@ $(merged 8 0 1 $one) $(catch 8 0 10)
 $(merged 7 1 2 $two) $(catch 7 1 10)
 END
 
+# ---- a table gets more columns: the worked requests; then the row is (1, 'v1', NULL), as the DELETE that is accepted tells, and the one that isn't
+
+key1=010000000000000001
+key2=010000000000000002
+wide=5403010000743100
+insert_wide=${wide}1200${key2}030161030162
+delete_wide=${wide}0900${key1}0302763105
+update_wide=${wide}1700${key1}03027631050003027632030163
+session << END
+110000000700000000000000010000000000000001 01000000070000000000000001000000000000000000000016$insert
+11ffffffff00000000000000010000000000000002 040000000000000001000000000000000100000003000000027431
+132e 040000000000000002000000000000000200000003000000027431
+110000000700000000000000010000000000000001 01000000070000000000000001000000000000000000000016$insert
+131f 01000000080000000000000001000000000000000200000016$insert
+1400000000000000010000000101ffffffff000000000000000100000006000000037431 0200000000000000010000000a
+11ffffffff00000000000000010000000000000002 040000000000000001000000000000000100000003000000027431
+120000000000000002 040000000000000009000000000000000100000003000000027431
+1328 040000000000000001000000000000000900000004000000027431
+110000000800000000000000020000000000000003 01000000080000000000000002000000000000000200000019$insert_wide
+1329 $(push 8 3 3 ${wide}0900${key1}03027631030162)
+$(accepted 8 3 4) $(push 8 3 3 $delete_wide)
+$(entries 0 $(entry 7 1 $insert) $(wider 1 3 7431) $(entry 8 2 $insert_wide) $(entry 8 3 $delete_wide)) $(pull 0 10)
+END
+
+# It is judged by the entry at its base before the table is looked for, and a push by the tables at its base, or where that is above the newest version
+# by those there. Entries that are taken together end before the one that gives columns, and that is told by itself, whoever asks.
+session << END
+$(accepted 7 1 1) $(push 7 1 0 $insert)
+$(widened 5 2) $(widen 5 1 3 7431)
+$(accepted 7 2 3) $(push 7 2 2 $update_wide)
+$(accepted 8 1 4) $(push 8 1 3 $insert_wide)
+$(widened 5 2) $(widen 5 1 3 7431)
+$(stale 4) $(widen 5 1 4 7431)
+$(stale 4) $(widen 5 1 2 7431)
+$(stale 4) $(widen 5 1 3 7439)
+$(stale 4) $(widen 6 1 3 7431)
+$(stale 4) $(widen 5 0 3 7431)
+$(stale 4) $(widen 5 2 3 7431)
+$(stale 4) $(widen 5 3 0 '')
+1328 $(widen 5 5 3 7431)
+1328 $(widen 5 5 0 7439)
+1328 $(widen 5 18446744073709551615 5 7431)
+132e $(widen 5 4 3 7431)
+$(accepted 7 1 1) $(push 7 1 0 $insert)
+$(stale 4) $(push 8 1 0 $insert)
+131f $(push 8 1 0 $insert_wide)
+$(stale 4) $(push 8 1 1 $insert)
+131f $(push 8 1 1 $insert_wide)
+131f $(push 8 1 2 $insert)
+$(stale 4) $(push 8 1 2 $insert_wide)
+$(accepted 8 1 4) $(push 8 1 3 $insert_wide)
+131f $(push 8 1 4 $insert)
+131f $(push 8 1 9 $insert)
+1328 $(push 8 1 9 $delete_wide)
+132a $(push 8 1 9 $wide)
+131f $(push 8 1 9 54020100743100)
+$(merged 9 0 1 $insert) $(catch 9 0 10)
+$(merged 9 0 1 $insert) $(catch 9 0 1)
+$(entries 1 $(wider 5 3 7431)) $(catch 9 1 10)
+$(entries 1 $(wider 5 3 7431)) $(catch 9 1 1)
+$(merged 9 1 1 '') $(catch 9 1 0)
+$(entries 1 $(wider 5 3 7431)) $(catch 4294967295 1 10)
+$(merged 9 2 4 ${update_wide}1200${key2}030161030162) $(catch 9 2 10)
+$(merged 9 3 4 $insert_wide) $(catch 9 3 10)
+$(merged 8 2 3 $update_wide) $(catch 8 2 10)
+$(entries 0 $(entry 7 1 $insert)) $(catch 7 0 10)
+$(entries 1 $(wider 5 3 7431) $(entry 7 2 $update_wide)) $(pull 1 2)
+END
+
+# One table twice, another one whose key is its first and its third column, and each without a row that stays. All have one number, and each counts.
+two_five=54050100010000743200
+delete_six=540601000000000074310009000100000000000000010302763105050505
+delete_five=${two_five}090001000000000000000503016203016b0505
+session t1:10 t2:101 << END
+$(accepted 7 1 1) $(push 7 1 0 ${insert}5403010001743200120001000000000000000503016203016b)
+$(widened 1 2) $(widen 1 1 5 7432)
+$(widened 1 3) $(widen 1 2 3 7431)
+$(widened 1 4) $(widen 1 3 6 7431)
+$(widened 1 3) $(widen 1 2 3 7431)
+132e $(widen 1 4 5 7431)
+132e $(widen 1 4 5 7432)
+$(stale 4) $(push 7 2 3 $delete_five)
+131f $(push 7 2 4 ${delete_wide})
+131f $(push 7 2 4 54050100010100743200090001000000000000000503016203016b03016b05)
+1329 $(push 7 2 4 ${two_five}090001000000000000000503016203016b05030178)
+$(accepted 7 2 5) $(push 7 2 4 ${delete_six}${delete_five})
+$(widened 1 6) $(widen 1 5 7 7431)
+$(entries 1 $(wider 1 5 7432)) $(catch 9 1 10)
+$(entries 2 $(wider 1 3 7431)) $(catch 9 2 10)
+$(entries 3 $(wider 1 6 7431)) $(catch 9 3 10)
+$(merged 9 4 5 ${delete_six}${delete_five}) $(catch 9 4 10)
+$(entries 1 $(wider 1 5 7432) $(wider 1 3 7431) $(wider 1 6 7431)) $(pull 1 3)
+END
+
+# A push whose origin is that of such entries is a push; and the most columns that there are.
+all_columns=548f5001$(many 1999 00)743100
+session << END
+$(accepted 4294967295 1 1) $(push 4294967295 1 0 $insert)
+$(stale 1) $(widen 1 0 3 7431)
+$(widened 1 2) $(widen 1 1 2000 7431)
+$(accepted 4294967295 1 1) $(push 4294967295 1 0 $insert)
+$(stale 2) $(push 4294967295 1 1 $insert)
+132e $(widen 2 2 2001 7431)
+132e $(widen 2 2 2000 7431)
+$(accepted 7 2 3) $(push 7 2 2 ${all_columns}0900${key1}03027631$(many 1998 05))
+END
+
+# ---- widths, names and bytes of such a request: the answer of a new hub, the request
+
+while read -r answer line; do
+    answers "$answer\n" "$line"
+done << END
+132e $(widen 1 0 3 7439)
+132e $(widen 1 0 3 5431)
+132e $(widen 1 0 3 '')
+132e $(widen 1 0 3 74)
+132e $(widen 1 0 3 743100)
+132e $(widen 1 0 3 743131)
+132e $(widen 1 0 3 c3a9)
+132e $(widen 1 0 3 "$(many 255 61)")
+132e $(widen 1 0 3 "$(many 256 61)")
+132e $(widen 1 0 3 "$(many 65536 61)")
+132e $(widen 1 0 0 7431)
+132e $(widen 1 0 1 7431)
+132e $(widen 1 0 2 7431)
+132e $(widen 1 0 2001 7431)
+132e $(widen 1 0 4294967295 7431)
+$(widened 1 1) $(widen 1 0 3 7431)
+$(widened 1 1) $(widen 1 0 2000 7431)
+$(widened 0 1) $(widen 0 0 3 7431)
+$(widened 18446744073709551615 1) $(widen 18446744073709551615 0 3 7431)
+1328 $(widen 1 1 3 7431)
+1306 $(widen 1 0 3 ff)
+1306 $(widen 1 0 3 7431c3)
+1306 $(widen 1 0 3 c080)
+1306 $(widen 1 0 3 eda080)
+1306 $(widen 1 0 3 f4908080)
+1306 $(widen 1 9 0 ff)
+1315 $(widen 1 0 3 ff)00
+1315 $(widen 1 0 3 7431)00
+1302 0400000000000000010000000000000000000000030000000274
+1302 04000000000000000100000000000000000000000300000001
+1302 040000000000000001000000000000000000000003ffffffff
+1302 040000000000000001000000000000000000000003ffffffff7431
+END
+
+# ---- a table gets a column 120 times: each request again, and on each version a push of the columns there, and one of a column more
+
+awk 'BEGIN {
+    for (base = 0; base < 120; base++) printf "04%016x%016x%08x000000027431\n", 1, base, base + 3
+    for (base = 0; base < 120; base++) {
+        printf "04%016x%016x%08x000000027431\n", 1, base, base + 3
+        for (more = 2; more < 4; more++) {
+            printf "0100000007%016x%016x%08x54%02x01", 1, base, 2 * (base + more) + 15, base + more
+            for (column = 1; column < base + more; column++) printf "00"
+            printf "743100120001%016x", 1
+            for (column = 1; column < base + more; column++) printf "05"
+            print ""
+        }
+    }
+    print "020000000000000077ffffffff"
+}' > "$dir/input"
+awk 'BEGIN {
+    for (base = 0; base < 120; base++) printf "11ffffffff%016x%016x\n", 1, base + 1
+    for (base = 0; base < 120; base++) printf "11ffffffff%016x%016x\n12%016x\n131f\n", 1, base + 1, 120
+    printf "14%016x0000000101ffffffff%016x00000006%08x7431\n", 119, 1, 122
+}' > "$dir/output_wanted"
+: > "$dir/errors_wanted"
+expect_files 0 hub t1:10
+rm -f "$dir/hub" "$dir/hub-wal" "$dir/hub-shm"
+expect_files 0 hub --file "$dir/hub" t1:10
+
 # ---- requests that are refused, and one of no entry: the answer, the line
 
 while read -r answer line; do
@@ -252,10 +443,6 @@ done << 'END'
 132a 0100000008ffffffffffffffffffffffffffffffff00000000
 1314 05
 1302 04
-132e 040000000000000001000000000000000000000003000000027431
-1302 0400000000000000010000000000000000000000030000000274
-1315 04000000000000000100000000000000000000000300000002743100
-1306 04000000000000000100000000000000000000000300000001ff
 1302 03
 1316 030000000900000000000000000000000
 1315 030000000900000000000000000000000a00
@@ -298,7 +485,7 @@ done
 
 # ---- fronts of requests that are taken, digit by digit: a half of a byte is no hex
 
-for request in "$(push 7 1 0 $insert)" 0200000000000000000000000a "$(catch 9 0 10)"; do
+for request in "$(push 7 1 0 $insert)" 0200000000000000000000000a "$(catch 9 0 10)" "$(widen 1 0 3 7431)"; do
     digits=0
     while [ "$digits" -lt "${#request}" ]; do
         answer=1302
@@ -367,6 +554,9 @@ done << 'END'
 131f 54020100c3a97e2100120001000000000000000103027631
 131e 540201004100120001000000000000000103027631
 END
+
+# Its name is looked for byte by byte.
+expect 0 "$(widen 1 0 2 c3a97e21)\n$(widen 1 1 2 613a62)\n$(widen 1 1 3 613a62)\n" "$(widened 1 1)\n132e\n$(widened 1 2)\n" '' hub $words
 
 # ---- table words that are refused, and the first of them is told: the words, what is told
 

@@ -1,20 +1,21 @@
 #!/bin/sh
 # Runs the built program `sync world` on scripts, and compares each run's status, output and errors with what they have to be: worlds of a
-# hub, replicas and their messages with what each event comes to and how the world stands at the end, what is refused, words that are
+# hub, replicas and their messages with what each event comes to and how the world stands at the end, also while tables get more columns, what is refused, words that are
 # read, and lines that can't be read. One case is one run. (`worlds.sh` draws worlds and compares hub and replicas in them.)
 # Usage: bench/check_worlds.sh PROGRAM
 set -u
 program="${1:?usage: bench/check_worlds.sh PROGRAM}"
 . "$(dirname "$0")/running.sh"
 
-# plays N: a world of N replicas of t1 makes the events of a table, which stands on the input: a line each, behind a bar what it comes to,
-# and behind the last event, in lines that begin with the bar, how the world stands then.
+# plays N [TABLE..]: a world of N replicas of these tables, or of t1, makes the events of a table, which stands on the input: a line each, behind a bar
+# what it comes to, and behind the last event, in lines that begin with the bar, how the world stands then.
 plays() {
+    [ "$#" -gt 1 ] || set -- "$1" t1:10
     cat > "$dir/table"
     sed -n 's/^\([^|]*[^| ]\) *| .*/\1/p' "$dir/table" > "$dir/input"
     sed 's/^[^|]*| //' "$dir/table" > "$dir/output_wanted"
     : > "$dir/errors_wanted"
-    expect_files 0 world "$1" t1:10
+    expect_files 0 world "$@"
 }
 
 # ---- an answer is lost, and an old push comes again: the hub has the pushed row, the replica its own on top
@@ -436,7 +437,11 @@ edit 0 update t1                 | refused Width
 edit 0 delete t1 null            | refused NullKey
 pull 0 0                         | sent 0
 deliver 18446744073709551615 -   | refused NoMessage
-| hub 0
+widen 18446744073709551615 18446744073709551615 t9 4294967295 | sent 1
+deliver 1 -                      | sent 2
+widen 007 00 t%31 03             | sent 3
+deliver 3 -                      | sent 4
+| hub 1
 | replica 0 version 0 pending 3 flight 0
 | row t1 0 x=00ff
 | row t1 7 null
@@ -466,6 +471,523 @@ seconds=120
 plays 2 < "$dir/long"
 seconds=20
 
+# ---- a table gets a column while a push is on its way: it comes late, its change is pending again, with NULL in the column, and is pushed once more. The
+# answer to the request is told to nobody, and what comes late then changes nothing
+
+plays 1 << 'END'
+edit 0 insert t1 1 t=v1 | ok
+push 0                  | sent 0
+widen 1 0 t1 3          | sent 1
+deliver 1 -             | sent 2
+deliver 0 -             | sent 3
+pull 0 10               | sent 4
+deliver 4 -             | sent 5
+deliver 5 -             | taken 1 version 1
+push 0                  | sent 6
+deliver 6 -             | sent 7
+deliver 7 -             | accepted 2
+deliver 2 -             | ignored
+deliver 3 -             | stale 1
+deliver 0 -             | sent 8
+deliver 8 -             | stale 2
+| hub 2
+| row t1 1 t=v1 null
+| replica 0 version 2 pending 0 flight 0
+| row t1 1 t=v1 null
+END
+
+# ---- the push goes first, and its answer is lost: it is told again behind the columns, or found in the log with them
+
+plays 1 << 'END'
+edit 0 insert t1 1 t=v1 | ok
+push 0                  | sent 0
+deliver 0 -             | sent 1
+widen 1 1 t1 3          | sent 2
+deliver 2 -             | sent 3
+deliver 3 -             | ignored
+| hub 2
+| row t1 1 t=v1 null
+| replica 0 version 0 pending 0 flight 1
+| row t1 1 t=v1
+END
+plays 1 << 'END'
+edit 0 insert t1 1 t=v1 | ok
+push 0                  | sent 0
+deliver 0 -             | sent 1
+widen 1 1 t1 3          | sent 2
+deliver 2 -             | sent 3
+resend 0                | sent 4
+deliver 4 -             | sent 5
+deliver 5 -             | accepted 1
+pull 0 10               | sent 6
+deliver 6 -             | sent 7
+deliver 7 s             | taken 1 version 2
+deliver 1 -             | ignored
+| hub 2
+| row t1 1 t=v1 null
+| replica 0 version 2 pending 0 flight 0
+| row t1 1 t=v1 null
+END
+plays 1 << 'END'
+edit 0 insert t1 1 t=v1 | ok
+push 0                  | sent 0
+edit 0 update t1 1 t=v2 | ok
+deliver 0 -             | sent 1
+widen 1 1 t1 3          | sent 2
+deliver 2 -             | sent 3
+pull 0 10               | sent 4
+deliver 4 -             | sent 5
+deliver 5 s             | taken 2 version 2
+deliver 1 -             | ignored
+push 0                  | sent 6
+deliver 6 -             | sent 7
+deliver 7 -             | accepted 3
+| hub 3
+| row t1 1 t=v2 null
+| replica 0 version 3 pending 0 flight 0
+| row t1 1 t=v2 null
+END
+
+# ---- what is under way and what is pending become one, and the next push has the column: an INSERT that was changed and another; a DELETE; an UPDATE; an
+# UPDATE that was taken back; an INSERT that was deleted
+
+plays 1 << 'END'
+edit 0 insert t1 1 t=v1 | ok
+push 0                  | sent 0
+edit 0 update t1 1 t=v2 | ok
+edit 0 insert t1 2 t=x  | ok
+widen 1 0 t1 3          | sent 1
+deliver 1 -             | sent 2
+pull 0 10               | sent 3
+deliver 3 -             | sent 4
+deliver 4 -             | taken 1 version 1
+| hub 1
+| replica 0 version 1 pending 2 flight 0
+| row t1 1 t=v2 null
+| row t1 2 t=x null
+END
+plays 1 << 'END'
+edit 0 insert t1 1 t=v1 | ok
+push 0                  | sent 0
+edit 0 update t1 1 t=v2 | ok
+edit 0 insert t1 2 t=x  | ok
+widen 1 0 t1 3          | sent 1
+deliver 1 -             | sent 2
+catch 0 10              | sent 3
+deliver 3 -             | sent 4
+deliver 4 -             | taken 1 version 1
+push 0                  | sent 5
+deliver 5 -             | sent 6
+deliver 6 -             | accepted 2
+| hub 2
+| row t1 1 t=v2 null
+| row t1 2 t=x null
+| replica 0 version 2 pending 0 flight 0
+| row t1 1 t=v2 null
+| row t1 2 t=x null
+END
+plays 1 << 'END'
+edit 0 insert t1 1 t=v1 | ok
+push 0                  | sent 0
+deliver 0 -             | sent 1
+deliver 1 -             | accepted 1
+edit 0 delete t1 1      | ok
+push 0                  | sent 2
+widen 1 1 t1 3          | sent 3
+deliver 3 -             | sent 4
+pull 0 10               | sent 5
+deliver 5 -             | sent 6
+deliver 6 -             | taken 1 version 2
+push 0                  | sent 7
+deliver 7 -             | sent 8
+deliver 8 -             | accepted 3
+| hub 3
+| replica 0 version 3 pending 0 flight 0
+END
+plays 1 << 'END'
+edit 0 insert t1 1 t=v1 | ok
+push 0                  | sent 0
+deliver 0 -             | sent 1
+deliver 1 -             | accepted 1
+edit 0 update t1 1 t=v2 | ok
+widen 1 1 t1 3          | sent 2
+deliver 2 -             | sent 3
+pull 0 10               | sent 4
+deliver 4 -             | sent 5
+deliver 5 -             | taken 1 version 2
+push 0                  | sent 6
+deliver 6 -             | sent 7
+deliver 7 -             | accepted 3
+| hub 3
+| row t1 1 t=v2 null
+| replica 0 version 3 pending 0 flight 0
+| row t1 1 t=v2 null
+END
+plays 1 << 'END'
+edit 0 insert t1 1 t=v1 | ok
+push 0                  | sent 0
+deliver 0 -             | sent 1
+deliver 1 -             | accepted 1
+edit 0 update t1 1 t=v2 | ok
+push 0                  | sent 2
+edit 0 update t1 1 t=v1 | ok
+widen 1 1 t1 3          | sent 3
+deliver 3 -             | sent 4
+pull 0 10               | sent 5
+deliver 5 -             | sent 6
+deliver 6 -             | taken 1 version 2
+push 0                  | refused Nothing
+resend 0                | refused Nothing
+| hub 2
+| row t1 1 t=v1 null
+| replica 0 version 2 pending 0 flight 0
+| row t1 1 t=v1 null
+END
+plays 1 << 'END'
+edit 0 insert t1 1 t=v1 | ok
+push 0                  | sent 0
+edit 0 delete t1 1      | ok
+widen 1 0 t1 3          | sent 1
+deliver 1 -             | sent 2
+pull 0 10               | sent 3
+deliver 3 -             | sent 4
+deliver 4 -             | taken 1 version 1
+push 0                  | refused Nothing
+| hub 1
+| replica 0 version 1 pending 0 flight 0
+END
+
+# ---- a clash in front of the columns: it is asked about once, and the columns ask nobody. Kept, the own change has them; taken, nothing is left; and
+# where it is stopped they don't come
+
+# clashes WISHES: the events of two replicas that change a row, behind which the hub gives its table a column, and the second is told both by these wishes.
+clashes() {
+    cat << END
+edit 0 insert t1 1 t=v1 | ok
+push 0                  | sent 0
+deliver 0 -             | sent 1
+deliver 1 -             | accepted 1
+pull 1 10               | sent 2
+deliver 2 -             | sent 3
+deliver 3 -             | taken 1 version 1
+edit 0 update t1 1 t=x  | ok
+push 0                  | sent 4
+deliver 4 -             | sent 5
+deliver 5 -             | accepted 2
+widen 1 2 t1 3          | sent 6
+deliver 6 -             | sent 7
+edit 1 update t1 1 t=y  | ok
+pull 1 10               | sent 8
+deliver 8 -             | sent 9
+deliver 9 $1            | $2
+END
+}
+
+{
+    clashes ks 'taken 2 version 3'
+    cat << 'END'
+push 1      | sent 10
+deliver 10 - | sent 11
+deliver 11 - | accepted 4
+pull 0 10    | sent 12
+deliver 12 - | sent 13
+deliver 13 s | taken 2 version 4
+| hub 4
+| row t1 1 t=y null
+| replica 0 version 4 pending 0 flight 0
+| row t1 1 t=y null
+| replica 1 version 4 pending 0 flight 0
+| row t1 1 t=y null
+END
+} > "$dir/clashed"
+plays 2 < "$dir/clashed"
+{
+    clashes ts 'taken 2 version 3'
+    cat << 'END'
+push 1 | refused Nothing
+| hub 3
+| row t1 1 t=x null
+| replica 0 version 2 pending 0 flight 0
+| row t1 1 t=x
+| replica 1 version 3 pending 0 flight 0
+| row t1 1 t=x null
+END
+} > "$dir/clashed"
+plays 2 < "$dir/clashed"
+{
+    clashes s 'stopped 0 version 1'
+    cat << 'END'
+| hub 3
+| row t1 1 t=x null
+| replica 0 version 2 pending 0 flight 0
+| row t1 1 t=x
+| replica 1 version 1 pending 1 flight 0
+| row t1 1 t=y
+END
+} > "$dir/clashed"
+plays 2 < "$dir/clashed"
+
+# ---- and a clash behind the columns, over a change that was made without them: the stop leaves what was taken before it
+
+plays 2 << 'END'
+edit 0 insert t1 1 t=v1 | ok
+push 0                  | sent 0
+deliver 0 -             | sent 1
+deliver 1 -             | accepted 1
+pull 1 10               | sent 2
+deliver 2 -             | sent 3
+deliver 3 -             | taken 1 version 1
+edit 1 update t1 1 t=y  | ok
+widen 1 1 t1 3          | sent 4
+deliver 4 -             | sent 5
+pull 0 10               | sent 6
+deliver 6 -             | sent 7
+deliver 7 -             | taken 1 version 2
+edit 0 update t1 1 t=x  | refused Width
+edit 0 update t1 1 t=x 5 | ok
+push 0                  | sent 8
+deliver 8 -             | sent 9
+deliver 9 -             | accepted 3
+edit 1 update t1 1 - 6  | refused Width
+pull 1 10               | sent 10
+deliver 10 -            | sent 11
+deliver 11 s            | stopped 1 version 2
+edit 1 update t1 1 - 6  | ok
+deliver 11 ks           | taken 1 version 3
+push 1                  | sent 12
+deliver 12 -            | sent 13
+deliver 13 -            | accepted 4
+| hub 4
+| row t1 1 t=y 6
+| replica 0 version 3 pending 0 flight 0
+| row t1 1 t=x 5
+| replica 1 version 4 pending 0 flight 0
+| row t1 1 t=y 6
+END
+
+# ---- a change of the new column by one who has it, and one of another column by one who hasn't: both count, and nobody is asked
+
+plays 2 << 'END'
+edit 0 insert t1 1 t=v1 | ok
+push 0                  | sent 0
+deliver 0 -             | sent 1
+deliver 1 -             | accepted 1
+pull 1 10               | sent 2
+deliver 2 -             | sent 3
+deliver 3 -             | taken 1 version 1
+widen 1 1 t1 3          | sent 4
+deliver 4 -             | sent 5
+edit 1 update t1 1 t=y  | ok
+pull 0 10               | sent 6
+deliver 6 -             | sent 7
+deliver 7 s             | taken 1 version 2
+edit 0 update t1 1 - 5  | ok
+push 0                  | sent 8
+deliver 8 -             | sent 9
+deliver 9 -             | accepted 3
+pull 1 10               | sent 10
+deliver 10 -            | sent 11
+deliver 11 s            | taken 2 version 3
+push 1                  | sent 12
+deliver 12 -            | sent 13
+deliver 13 -            | accepted 4
+pull 0 10               | sent 14
+deliver 14 -            | sent 15
+deliver 15 s            | taken 1 version 4
+| hub 4
+| row t1 1 t=y 5
+| replica 0 version 4 pending 0 flight 0
+| row t1 1 t=y 5
+| replica 1 version 4 pending 0 flight 0
+| row t1 1 t=y 5
+END
+
+# ---- two requests for one table and one for another, pulled at once: the rows of both, edits of the old width, and a replica that begins anew
+
+plays 1 t1:10 t2:101 << 'END'
+edit 0 insert t2 1 5 t=k         | ok
+push 0                           | sent 0
+deliver 0 -                      | sent 1
+deliver 1 -                      | accepted 1
+widen 1 1 t2 5                   | sent 2
+deliver 2 -                      | sent 3
+widen 2 2 t2 6                   | sent 4
+deliver 4 -                      | sent 5
+widen 3 3 t1 4                   | sent 6
+deliver 6 -                      | sent 7
+edit 0 insert t2 1 null t=m      | ok
+pull 0 10                        | sent 8
+deliver 8 -                      | sent 9
+deliver 9 -                      | taken 3 version 4
+restart 0                        | ok
+edit 0 insert t1 1 2             | refused Width
+edit 0 insert t1 1 2 3           | refused Width
+edit 0 insert t1 1 2 3 4         | ok
+edit 0 update t2 1 - t=k - - 7   | ok
+edit 0 update t2 1 8 t=k         | refused Width
+edit 0 delete t2 1 t=k null      | refused Width
+push 0                           | sent 10
+deliver 10 -                     | sent 11
+deliver 11 -                     | accepted 5
+edit 0 delete t2 1 t=k           | ok
+| hub 5
+| row t1 1 2 3 4
+| row t2 1 5 t=k null null 7
+| row t2 1 null t=m null null null
+| replica 0 version 5 pending 1 flight 0
+| row t1 1 2 3 4
+| row t2 1 null t=m null null null
+END
+
+# ---- a table without rows, one entry at a time; the request twice, with a push between, and others that the hub refuses, each told to nobody
+
+plays 1 << 'END'
+widen 1 0 t1 3          | sent 0
+widen 1 0 t9 3          | sent 1
+widen 1 0 t1 2          | sent 2
+widen 1 9 t1 3          | sent 3
+deliver 1 -             | sent 4
+deliver 2 -             | sent 5
+deliver 3 -             | sent 6
+deliver 0 -             | sent 7
+deliver 0 -             | sent 8
+pull 0 1                | sent 9
+deliver 9 -             | sent 10
+deliver 10 -            | taken 1 version 1
+edit 0 insert t1 1 2 3  | ok
+push 0                  | sent 11
+deliver 11 -            | sent 12
+deliver 12 -            | accepted 2
+deliver 0 -             | sent 13
+deliver 4 -             | ignored
+deliver 5 ks            | ignored
+deliver 6 -             | ignored
+deliver 7 -             | ignored
+deliver 8 -             | ignored
+deliver 13 -            | ignored
+deliver 10 -            | taken 0 version 2
+widen 2 2 t1 5          | sent 14
+deliver 14 -            | sent 15
+pull 0 0                | sent 16
+deliver 16 -            | sent 17
+deliver 17 -            | taken 0 version 2
+pull 0 1                | sent 18
+deliver 18 -            | sent 19
+deliver 19 -            | taken 1 version 3
+deliver 19 -            | taken 0 version 3
+| hub 3
+| row t1 1 2 3 null null
+| replica 0 version 3 pending 0 flight 0
+| row t1 1 2 3 null null
+END
+
+# ---- entries told together end before the one that gives columns; it is told by itself, and those behind it together again
+
+plays 2 << 'END'
+edit 0 insert t1 1 t=a   | ok
+push 0                   | sent 0
+deliver 0 -              | sent 1
+deliver 1 -              | accepted 1
+edit 0 insert t1 2 t=b   | ok
+push 0                   | sent 2
+deliver 2 -              | sent 3
+deliver 3 -              | accepted 2
+widen 7 2 t1 3           | sent 4
+deliver 4 -              | sent 5
+pull 0 10                | sent 6
+deliver 6 -              | sent 7
+deliver 7 -              | taken 1 version 3
+edit 0 update t1 1 - 5   | ok
+push 0                   | sent 8
+deliver 8 -              | sent 9
+deliver 9 -              | accepted 4
+edit 0 delete t1 2       | ok
+push 0                   | sent 10
+deliver 10 -             | sent 11
+deliver 11 -             | accepted 5
+edit 1 insert t1 2 t=z   | ok
+catch 1 10               | sent 12
+deliver 12 -             | sent 13
+deliver 13 s             | stopped 0 version 0
+deliver 13 ks            | taken 2 version 2
+catch 1 10               | sent 14
+deliver 14 -             | sent 15
+deliver 15 s             | taken 1 version 3
+deliver 13 s             | ignored
+catch 1 10               | sent 16
+deliver 16 -             | sent 17
+deliver 17 ks            | taken 2 version 5
+push 1                   | sent 18
+deliver 18 -             | sent 19
+deliver 19 -             | accepted 6
+| hub 6
+| row t1 1 t=a 5
+| row t1 2 t=z null
+| replica 0 version 5 pending 0 flight 0
+| row t1 1 t=a 5
+| replica 1 version 6 pending 0 flight 0
+| row t1 1 t=a 5
+| row t1 2 t=z null
+END
+
+# ---- five replicas with a push on its way: that of each in turn comes before the columns, and is taken with the columns that it has; those of the others come
+# behind, are late, and are made anew with the new one
+
+for early in 0 1 2 3 4; do
+    awk -v early="$early" '
+    function asks(event) { printf "%s | sent %d\n", event, sent++ }
+    BEGIN {
+        for (at = 0; at < 5; at++) printf "edit %d insert t1 %d t=a | ok\n", at, at
+        for (at = 0; at < 5; at++) asks("push " at)
+        asks("deliver " early " -")
+        printf "deliver %d - | accepted 1\n", sent - 1
+        asks("widen 1 1 t1 3")
+        asks("deliver " sent - 1 " -")
+        for (at = 0; at < 5; at++) {
+            asks("deliver " at " -")
+            printf "deliver %d - | %s\n", sent - 1, at == early ? "ignored" : "stale 2"
+        }
+        newest = 2
+        for (at = 0; at < 5; at++) {
+            asks("pull " at " 10")
+            asks("deliver " sent - 1 " -")
+            printf "deliver %d s | taken %d version %d\n", sent - 1, newest - (at == early), newest
+            if (at == early) continue
+            asks("push " at)
+            asks("deliver " sent - 1 " -")
+            printf "deliver %d - | accepted %d\n", sent - 1, ++newest
+        }
+        print "| hub 6"
+        for (at = 0; at < 5; at++) printf "| row t1 %d t=a null\n", at
+        stood = 2
+        for (at = 0; at < 5; at++) {
+            if (at != early) stood++
+            printf "| replica %d version %d pending 0 flight 0\n", at, stood
+            for (row = 0; row < 5; row++) if (row == early || row <= at) printf "| row t1 %d t=a null\n", row
+        }
+    }' > "$dir/five"
+    plays 5 < "$dir/five"
+done
+
+# ---- a table of 3,000 rows, half of them with a change pending and one in three of those in the push under way
+
+awk 'BEGIN {
+    for (row = 0; row < 3000; row++) printf "edit 0 insert t1 %d t=v | ok\n", row
+    print "push 0 | sent 0\ndeliver 0 - | sent 1\ndeliver 1 - | accepted 1"
+    for (row = 0; row < 3000; row += 6) printf "edit 0 update t1 %d t=w | ok\n", row
+    print "push 0 | sent 2"
+    for (row = 0; row < 3000; row += 2) printf "edit 0 %s t1 %d%s | ok\n", row % 4 ? "delete" : "update", row, row % 4 ? "" : " t=x"
+    print "widen 1 1 t1 4 | sent 3\ndeliver 3 - | sent 4\npull 0 10 | sent 5\ndeliver 5 - | sent 6\ndeliver 6 s | taken 1 version 2"
+    print "restart 0 | ok\npush 0 | sent 7\ndeliver 7 - | sent 8\ndeliver 8 - | accepted 3"
+    for (shown = 0; shown < 2; shown++) {
+        print shown ? "| replica 0 version 3 pending 0 flight 0" : "| hub 3"
+        for (row = 0; row < 3000; row++) if (row % 4 != 2) printf "| row t1 %d t=%s null null\n", row, row % 4 ? "v" : "x"
+    }
+}' > "$dir/large"
+seconds=120
+plays 1 < "$dir/large"
+seconds=20
+
 # ---- lines that name nothing: each alone is told as line 1, and behind others by its number, and nothing is printed
 
 for line in '' ' ' push 'push ' 'push  0' ' push 0' 'push 0 ' 'push +0' 'push 4294967296' 'push x' 'pull 0' 'pull 0 -1' 'deliver 0' 'deliver 0 ' \
@@ -473,7 +995,9 @@ for line in '' ' ' push 'push ' 'push  0' ' push 0' 'push 0 ' 'push +0' 'push 42
     'edit 0 insert t1 1 t=%0a' 'edit 0 insert t1 1 t=%FF' 'edit 0 insert t1 1 x=AB' 'edit 0 insert t1 1 x=0' \
     'edit 0 insert t1 9223372036854775808 t=a' 'edit 0 insert t1 +1 t=a' 'edit 0 update t1 - t=a' 'edit 0 delete t1 -' 'catch 0' 'catch 0 -1' \
     'catch 0 10 1' 'catch 0 4294967296' \
-    'widen 1 0 t1 3'; do
+    widen 'widen 1' 'widen 1 0' 'widen 1 0 t1' 'widen 1 0 t1 ' 'widen 1 0 t1 3 ' 'widen 1 0 t1 3 4' 'widen  1 0 t1 3' 'widen 1 0 t1  3' 'widen x 0 t1 3' \
+    'widen -1 0 t1 3' 'widen +1 0 t1 3' 'widen 1 - t1 3' 'widen 1 0 t1 -3' 'widen 1 0 t1 x' 'widen 1 0 t1 4294967296' 'widen 18446744073709551616 0 t1 3' \
+    'widen 1 18446744073709551616 t1 3' 'widen 1 0 t%1 3' 'widen 1 0 t%FF 3' 'widen 1 0 t%c3%a9 3'; do
     expect 1 "$line\n" '' 'sync: line 1\n' world 1 t1:10
 done
 expect 1 'edit 0 insert t1 1 t=v1\nnonsense\n' '' 'sync: line 2\n' world 1 t1:10

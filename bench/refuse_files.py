@@ -23,6 +23,10 @@ UPDATE = "540201007431001700010000000000000001030276310003027632"
 # Another's insert of one row, and then of the row that is inserted here too.
 TAKEN = "14000000000000000000000001000000000900000000000000010000001654020100743100120001000000000000000203027631"
 CLASHES = "14000000000000000100000001000000000900000000000000020000001654020100743100120001000000000000000103027632"
+# t1 gets a third column: the request on version 1, and the answer of the entry behind that version.
+WIDEN = "040000000000000001000000000000000100000003000000027431"
+WIDER = "1400000000000000010000000101ffffffff000000000000000100000006000000037431"
+INSERT_WIDE = "54030100007431001200010000000000000002030161030162"
 
 
 class Wrong(Exception):
@@ -132,6 +136,29 @@ COMMANDS = [
     ("hub", ["hub", "--file", "@", TABLE], [],
      [f"01000000070000000000000001000000000000000000000016{INSERT}", f"01000000080000000000000001000000000000000000000016{INSERT}",
       f"0100000007000000000000000200000000000000010000001b{UPDATE}", "0200000000000000000000000a", "030000000900000000000000000000000a"], ["02000000000000000000001000"], r"^1301$"),
+    # A column for rows that are under way and pending, an edit of it, the push, and the entry again; and a clash behind it, which is seen.
+    ("node-column", ["node", "@", "7", TABLE],
+     ["edit insert t1 1 t=v1", "push", "answer 110000000700000000000000010000000000000001 -", "edit insert t1 2 t=x", "push", "edit update t1 1 t=v2", "edit insert t1 3 t=y"],
+     [f"answer {WIDER} s", "edit update t1 1 - 5", "push", f"answer {WIDER} -"], ["dump", "resend", "push"], r"^(refused|fault) Memory"),
+    ("follow-column", ["node", "--follow", "@", "7", TABLE], [f"answer {TAKEN} s", "edit insert t1 1 t=v1", "push", "edit update t1 2 t=z"],
+     [f"answer {WIDER} s", "place", "edits 2\nedit update t1 1 - 5\nedit delete t1 2",
+      "answer 14000000000000000200000001000000000900000000000000020000001954030100007431001200010000000000000001030161030162 s"], ["dump", "pending"],
+     r"^(refused|fault) Memory|clash Memory$", 3),
+    # The same at a hub: the request twice, a push by the tables of before and one by those behind it, a refused one, and what was made of it.
+    ("hub-column", ["hub", "--file", "@", TABLE], [f"01000000070000000000000001000000000000000000000016{INSERT}"],
+     [WIDEN, WIDEN, f"01000000070000000000000001000000000000000000000016{INSERT}", f"01000000080000000000000001000000000000000200000019{INSERT_WIDE}",
+      "040000000000000002000000000000000300000003000000027431", "0200000000000000000000000a", "030000000900000000000000000000000a", "030000000900000000000000010000000a"],
+     ["02000000000000000000001000"], r"^1301$"),
+    # The file opened again, of the hub and of the replica.
+    ("hub-columns", ["hub", "--file", "@", TABLE], [f"01000000070000000000000001000000000000000000000016{INSERT}", WIDEN, "040000000000000001000000000000000200000005000000027431"],
+     ["0200000000000000000000000a", "0100000008000000000000000100000000000000030000001b540501000000007431001200010000000000000002030161050505"],
+     ["02000000000000000000001000"], r"^1301$"),
+    ("node-columns", ["node", "@", "7", TABLE], [f"answer {TAKEN} s", "edit insert t1 1 t=v1", f"answer {WIDER} s"],
+     ["edit update t1 1 - 5", "push", "resend"], ["dump", "resend", "push"], r"^(refused|fault) Memory"),
+    # A column in a world: asked for twice, taken by one replica and asked for by the other, whose push comes late.
+    ("world-column", ["world", "2", TABLE], [],
+     ["edit 0 insert t1 1 t=v1", "push 0", "deliver 0 -", "edit 1 insert t1 2 t=v2", "push 1", "widen 1 1 t1 3", "deliver 3 -", "deliver 4 -", "pull 1 10", "deliver 5 -", "deliver 6 -",
+      "push 1", "catch 0 10"], [], r"Memory"),
     # Edits of two replicas, a push that reaches the hub, questions for entries and for what they do together, and the second's answer.
     ("world", ["world", "2", TABLE], [],
      ["edit 0 insert t1 1 t=v1", "edit 1 insert t1 2 t=v2", "push 0", "deliver 0 -", "pull 1 10", "edit 0 update t1 1 t=v3", "catch 1 10", "deliver 3 -", "deliver 4 -"], [], r"Memory"),

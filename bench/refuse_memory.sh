@@ -46,49 +46,61 @@ refuse_tool() {
     echo "$*: allocations refused in turn: $((number - 1)); runs ended with Memory: $ended; done without: $spared"
 }
 
+# Refuses a hub of t1 each of its allocations on requests, one a line.
+refuse_hub() {
+    local requests="$1" number=0 ended=0 answered=0 spared=0 wanted line
+    "$sync" hub t1:10 < "$requests" > "$out/answers_whole"
+    wanted="$(wc -l < "$requests")"
+    while true; do
+        number=$((number + 1))
+        run_refused "$number" "$requests" hub t1:10 || break
+
+        if [ "$status" -eq 1 ] && [ "$(cat "$out/errors")" = "sync: Memory" ]; then
+            [ ! -s "$out/answers" ] || { echo "allocation $number: answers before the run gave up" >&2; exit 1; }
+            ended=$((ended + 1))
+            continue
+        fi
+        if [ "$status" -eq 0 ] && cmp -s "$out/answers" "$out/answers_whole"; then
+            spared=$((spared + 1))
+            [ "$spared" -lt 20 ] || { echo "the program doesn't take its memory from the C library" >&2; exit 1; }
+            continue
+        fi
+        [ "$status" -eq 0 ] && [ "$(grep -c '^1301$' "$out/answers")" -eq 1 ] \
+            && [ "$(wc -l < "$out/answers")" -eq "$wanted" ] || {
+            echo "allocation $number: status $status, $(cat "$out/errors")" >&2
+            exit 1
+        }
+        line="$(grep -n '^1301$' "$out/answers" | cut -d: -f1)"
+        sed "${line}d" "$out/answers" > "$out/answers_left"
+        sed "${line}d" "$requests" | "$sync" hub t1:10 > "$out/answers_without"
+        cmp "$out/answers_left" "$out/answers_without" || {
+            echo "allocation $number: line $line was refused and left something behind" >&2
+            exit 1
+        }
+        answered=$((answered + 1))
+    done
+    [ "$answered" -gt 0 ] || { echo "no line was refused for want of memory" >&2; exit 1; }
+    echo "allocations refused in turn: $((number - 1)); runs ended with Memory: $ended; lines answered 1301: $answered; done without: $spared"
+}
+
 if [ $# -gt 1 ]; then
-    cp "$2" "$out/requests"
+    refuse_hub "$2"
 else
     sed p "$crate/../sync_cli/stdin" > "$out/requests"
+    refuse_hub "$out/requests"
+
+    # A row, two columns one after the other, each asked for twice, a push by the columns of before and again, one by the new ones, and the DELETE that tells
+    # the row. What the entries do together ends before the first column, and that is told by itself.
+    inserts=0100000007000000000000000100000000000000000000001654020100743100120001000000000000000103027631
+    asks=040000000000000001000000000000000100000003000000027431
+    wide=54050100000000743100
+    printf '%s\n' $inserts $asks $asks 040000000000000002000000000000000200000005000000027431 $inserts \
+        0100000007000000000000000200000000000000030000001c${wide}120001000000000000000203027631050505 \
+        0100000007000000000000000300000000000000040000001c${wide}090001000000000000000103027631050505 \
+        040000000000000003000000000000000500000004000000027431 0200000000000000000000000a \
+        030000000900000000000000000000000a 030000000900000000000000010000000a > "$out/wider"
+    refuse_hub "$out/wider"
 fi
-"$sync" hub t1:10 < "$out/requests" > "$out/answers_whole"
-wanted="$(wc -l < "$out/requests")"
-
-number=0
-ended=0
-answered=0
-spared=0
-while true; do
-    number=$((number + 1))
-    run_refused "$number" "$out/requests" hub t1:10 || break
-
-    if [ "$status" -eq 1 ] && [ "$(cat "$out/errors")" = "sync: Memory" ]; then
-        [ ! -s "$out/answers" ] || { echo "allocation $number: answers before the run gave up" >&2; exit 1; }
-        ended=$((ended + 1))
-        continue
-    fi
-    if [ "$status" -eq 0 ] && cmp -s "$out/answers" "$out/answers_whole"; then
-        spared=$((spared + 1))
-        [ "$spared" -lt 20 ] || { echo "the program doesn't take its memory from the C library" >&2; exit 1; }
-        continue
-    fi
-    [ "$status" -eq 0 ] && [ "$(grep -c '^1301$' "$out/answers")" -eq 1 ] \
-        && [ "$(wc -l < "$out/answers")" -eq "$wanted" ] || {
-        echo "allocation $number: status $status, $(cat "$out/errors")" >&2
-        exit 1
-    }
-    line="$(grep -n '^1301$' "$out/answers" | cut -d: -f1)"
-    sed "${line}d" "$out/answers" > "$out/answers_left"
-    sed "${line}d" "$out/requests" | "$sync" hub t1:10 > "$out/answers_without"
-    cmp "$out/answers_left" "$out/answers_without" || {
-        echo "allocation $number: line $line was refused and left something behind" >&2
-        exit 1
-    }
-    answered=$((answered + 1))
-done
-[ "$answered" -gt 0 ] || { echo "no line was refused for want of memory" >&2; exit 1; }
-echo "allocations refused in turn: $((number - 1)); runs ended with Memory: $ended; lines answered 1301: $answered; \
-done without: $spared"
 
 # An INSERT, an UPDATE of its row, a DELETE of another and a second table.
 printf '%s\n' 54020100743100120001000000000000000103027631 \
