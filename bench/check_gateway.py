@@ -491,7 +491,8 @@ class Shop:
         for words in ["stock:10", "notes:10"], ["stock:100", "notes:100"]:
             self.gateway.fails("the tables %s" % words, 1, "sync: Mismatch", hub=[*self.gateway.hub[:-2], *words])
         self.gateway.fails("no program", 1, "can't be started", hub=[os.path.join(self.folder, "none"), "hub"])
-        for text in "", "1 short\n", "1\n", "admin\n", "admin short\n", "admins %s\n" % NORTH, "1 %s\nadmin %s\n" % (NORTH, NORTH), "x %s\n" % NORTH, "4294967296 %s\n" % NORTH, "1 %s\n2 %s\n" % (NORTH, NORTH):
+        for text in "", "1 short\n", "1\n", "x %s\n" % NORTH, "4294967296 %s\n" % NORTH, "1 %s\n2 %s\n" % (NORTH, NORTH), \
+                "admin\n", "admin short\n", "admins %s\n" % NORTH, "1 %s\nadmin %s\n" % (NORTH, NORTH):
             path = os.path.join(self.folder, "bad")
             with open(path, "w") as file:
                 file.write(text)

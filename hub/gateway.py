@@ -9,7 +9,8 @@ administrator. A request carries `Authorization: Bearer TOKEN`. With port 0 the 
 `ready PORT`.
 
 Who may speak for whom is judged here, since the hub believes any origin: a push or a catch is handed on where its origin is the
-token's replica. What gives a table more columns is handed on for the administrator alone, who has no origin. A body is judged whole before its first line is handed on. What the hub does with it is the hub's own.
+token's replica. What gives a table more columns is handed on for the administrator alone, who has no origin. A body is judged whole
+before its first line is handed on. What the hub does with it is the hub's own.
 
 One process of the hub owns the file, and is asked one request at a time. It is started again where it has ended, tells that its device
 failed, or gives no answer in time. To ask again is safe: a push counts once however often it comes, and the others only read.

@@ -5,7 +5,7 @@
 #include <stdlib.h>
 
 static const char *program, *folder;
-static const char *const stock[] = {"stock:100", NULL}, *const sorts[] = {"all%20sorts:01", "stock:100", NULL};
+static const char *const stock[] = {"stock:100", NULL}, *const sorts[] = {"all%20sorts:01", "stock:100", NULL}, *const wide[] = {"stock:1000", NULL};
 
 static void owed_at(int line, int is_owed, const char *found) {
     if (is_owed) return;
@@ -132,6 +132,16 @@ static const char *sync_by(struct replica *replica, replica_exchange *exchange, 
     return refused ? refused : shown;
 }
 
+/* A hub that takes the first push of replica 8, and then gives the table `stock` six columns. */
+static char *widening(void *replica, const char *requests) {
+    static const char accepted[] = "11" "00000008" "0000000000000001" "0000000000000001\n", nothing[] = "14" "0000000000000002" "00000000\n";
+    static const char wider[] = "14" "0000000000000001" "00000001" "01" "ffffffff" "0000000000000001" "00000009" "00000006" "73746f636b\n";
+    struct replica_place place;
+    char *answers = calloc(1, sizeof accepted + sizeof wider);
+    owed(replica_where(replica, &place), "Busy");
+    return strncmp(requests, "01", 2) ? strcpy(answers, nothing) : strcat(strcpy(answers, accepted), wider);
+}
+
 /* ---- the tests */
 
 static void several(struct replica *till) {
@@ -198,6 +208,41 @@ static void tables(void) {
     replica_close(till);
 }
 
+/* A program that knows three columns, and one that knows six, on the same file. */
+static void wider(void) {
+    struct replica *till = open_as("wider.db", 8, stock);
+    size_t at;
+    const struct replica_edit edits[] = {{REPLICA_DELETE, "stock", REPLICA_VALUES(replica_text("nails"))},
+                                         {REPLICA_INSERT, "stock", REPLICA_VALUES(replica_text("oil"), replica_integer(2), replica_text(""))},
+                                         {REPLICA_UPDATE, "stock", REPLICA_VALUES(replica_text("oil"), replica_integer(3), replica_same())}};
+    done(replica_insert(till, "stock", REPLICA_VALUES(replica_text("nails"), replica_integer(100), replica_text(""))));
+    owed(replica_insert(till, "stock", REPLICA_VALUES(replica_text("saw"), replica_integer(1), replica_null(), replica_null())), "Width");
+    owed(sync_by(till, widening, till, NULL), "taken 1 version 2");
+    owed(rows(till, "stock"), " 'nails'5 100 ''0 NULL NULL NULL;");
+    done(replica_edits(till, edits, 3, &at));
+    holds(at == 3);
+    owed(pending(till), "i stock none > 'oil'3 3 ''0 NULL NULL NULL;d stock 'nails'5 100 ''0 NULL NULL NULL > none;");
+    owed(replica_edits(till, edits, 3, &at), "Missing");
+    holds(at == 0);
+    owed(replica_insert(till, "stock", REPLICA_VALUES(replica_text("saw"), replica_integer(1))), "Width");
+    owed(replica_update(till, "stock", REPLICA_VALUES(replica_text("oil"), replica_integer(1))), "Width");
+    replica_close(till);
+
+    till = open_as("wider.db", 8, stock);
+    done(replica_update(till, "stock", REPLICA_VALUES(replica_text("oil"), replica_same(), replica_text("red"))));
+    done(replica_update(till, "stock", REPLICA_VALUES(replica_text("oil"), replica_integer(4), replica_same(), replica_text("low"))));
+    done(replica_insert(till, "stock", REPLICA_VALUES(replica_text("saw"), replica_integer(1), replica_null(), replica_integer(7))));
+    owed(replica_insert(till, "stock", REPLICA_VALUES(replica_text("a"), replica_null(), replica_null(), replica_null(), replica_null(), replica_null(), replica_null())), "Width");
+    owed(rows(till, "stock"), " 'oil'3 4 'red'3 'low'3 NULL NULL; 'saw'3 1 NULL 7 NULL NULL;");
+    replica_close(till);
+    till = open_as("wider.db", 8, wide);
+    owed(row(till, "oil"), " 'oil'3 4 'red'3 'low'3 NULL NULL;");
+    owed(replica_insert(till, "stock", REPLICA_VALUES(replica_text("glue"), replica_integer(1), replica_null())), "Width");
+    done(replica_insert(till, "stock", REPLICA_VALUES(replica_text("glue"), replica_integer(1), replica_null(), replica_text("high"))));
+    owed(row(till, "glue"), " 'glue'4 1 NULL 'high'4 NULL NULL;");
+    replica_close(till);
+}
+
 static void hub(struct replica_http *by_north, struct replica_http *by_south) {
     struct replica *north = open_as("north.db", 1, stock), *south = open_as("south.db", 2, stock);
     const char *const articles[] = {"nails", "saw"};
@@ -249,6 +294,7 @@ int main(int count, char **words) {
     if (count != 6) return 2;
     program = words[1], folder = words[2];
     tables();
+    wider();
     hub(&(struct replica_http){"127.0.0.1", words[3], "/", words[4]}, &(struct replica_http){"127.0.0.1", words[3], "/", words[5]});
     return 0;
 }

@@ -331,7 +331,7 @@ class Replica:
         return words[:width] + [empty] * (width - len(words))
 
     def _has_grown(self, table: str) -> bool:
-        """Whether a table has more columns than it was known to have. No line tells how many: a row of nothing but NULL is refused as `NullKey` where it is as wide."""
+        """Whether a table has more columns than it was known to have. No line tells how many: where a row of nothing but NULL is as wide, it is refused as NullKey."""
         known = self._width[table]
         for width in range(known, MOST_COLUMNS + 1):
             try:

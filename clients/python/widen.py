@@ -2,8 +2,8 @@
 
     TOKEN=.. python3 widen.py URL TABLE WIDTH
 
-At URL is hub/gateway.py, and TOKEN is its `admin` token. The new columns stand behind the others, and each row has NULL there. The other clients get them with their next sync.
-Where no answer came, run it again: that the table has so many columns is then refused with code 46.
+At URL is hub/gateway.py, and TOKEN is its `admin` token. The new columns stand behind the others, and each row has NULL there. A till gets them with its next sync.
+Where no answer came, run it again: it is refused with code 46 where the table has so many columns by now.
 """
 from __future__ import annotations
 
@@ -15,8 +15,8 @@ from replica import Exchange, HubRefused, http_exchange
 def widen(exchange: Exchange, table: str, width: int) -> int:
     """Has the hub give this table so many columns, and gives the version from which on it has them.
 
-    A HubRefused with code 46 says that no table has this name, or that it has as many columns already, or that none may have so many. An OSError says
-    that no answer came: nothing is known then. The hub makes it once, however often this request arrives."""
+    A HubRefused with code 46 says that no table has this name, that it has as many columns already, or that none may have so many. An OSError says that no
+    answer came, so that nothing is known."""
     name, number, base = table.encode(), secrets.randbits(63), 0
     while True:
         # At a base below the log's length the answer is the newest version, on which it is asked again.
