@@ -61,6 +61,16 @@ class Case(unittest.TestCase):
         self.addCleanup(hub.close)
         return hub
 
+    def shown(self, till):
+        """All values of each row, but for the NULLs at its end."""
+        rows = []
+        for row in till.rows("stock"):
+            values = list(row + row.more)
+            while values[-1] is None:
+                values.pop()
+            rows.append(values)
+        return rows
+
     def refuses(self, name, call, /, *values, **fields):
         with self.assertRaises(Refused) as told:
             call(*values, **fields)
@@ -225,7 +235,7 @@ class Hubs(Case):
     def rest(self):
         for till in self.north, self.south, self.north:
             till.sync(self.at_hub)
-        self.assertEqual(sorted(self.north.rows("stock")), sorted(self.south.rows("stock")))
+        self.assertEqual(self.shown(self.north), self.shown(self.south))
         self.assertEqual({self.north.place(), self.south.place()}, {Place(len(self.at_hub.log()), 0, 0)})
         self.assertEqual(len(self.at_hub.log()), len(set(self.at_hub.log())))
 
@@ -423,6 +433,7 @@ class Hubs(Case):
         def exchange(requests):
             with turn:
                 return self.at_hub(requests)
+        widen(exchange, "stock", 5)
         while any(thread.is_alive() for thread in threads):
             for till in self.north, self.south:
                 till.sync(exchange)
@@ -434,7 +445,7 @@ class Hubs(Case):
 
     def test_drawn_work(self):
         draw = random.Random(int(os.environ.get("SEED", "1")))
-        tills = [1, 2]
+        tills, width = [1, 2], 3
         replicas = {1: self.north, 2: self.south}
         def lossy(requests):
             if draw.random() < 0.2:
@@ -448,7 +459,8 @@ class Hubs(Case):
             article, pieces = f"a{draw.randrange(6)}", draw.randrange(100)
             till = replicas[id]
             edit = draw.choice([lambda: till.insert("stock", article, pieces, ""), lambda: till.update("stock", article, pieces=pieces),
-                                lambda: till.update("stock", article, note=str(pieces)), lambda: till.delete("stock", article)])
+                                lambda: till.update("stock", article, note=str(pieces)), lambda: till.delete("stock", article),
+                                lambda: till.update("stock", article, note=None, **{name: pieces for name in till.columns["stock"] if name == "shelf"})])
             try:
                 edit()
             except Refused:
@@ -458,12 +470,16 @@ class Hubs(Case):
                     replicas[id].sync(lossy, lambda clash: draw.choice([keep_mine(clash), take_theirs(clash), Wish.STOP]))
                 except OSError:
                     pass
-            if draw.random() < 0.02:
+            if draw.random() < 0.05:
+                width += 1
+                widen(self.at_hub, "stock", width)
+            if draw.random() < 0.05:
                 replicas[id]._node.kill()
                 self.assertRaises(Ended, replicas[id].place)
-                replicas[id] = self.till(id)
+                replicas[id] = self.till(id, draw.choice([STOCK, LATER]))
         self.north, self.south = replicas[1], replicas[2]
         self.rest()
+        self.assertEqual({len(row + row.more) for row in self.north.rows("stock")}, {width})
 
 
 class Wider(Case):
@@ -477,9 +493,6 @@ class Wider(Case):
         self.north.sync(self.at_hub)
         self.south.sync(self.at_hub)
 
-    def shown(self, till):
-        return [(*row, *row.more) for row in till.rows("stock")]
-
     def test_who_has_fewer_names_goes_on(self):
         self.north.update("stock", "nails", pieces=90)
         self.south.insert("stock", "glue", 4, "")
@@ -490,8 +503,10 @@ class Wider(Case):
         self.assertEqual(self.north.sync(self.at_hub), Synced(1, 3, None))
         self.assertEqual(self.south.sync(self.at_hub), Synced(2, 4, None))
         self.north.sync(self.at_hub)
-        self.assertEqual(sorted(self.shown(self.south), key=str), [("glue", 4, "", None), ("nails", 90, "", None), ("rope", 1, None, None), ("saw", 100, "blunt", None)])
-        self.assertEqual(self.shown(self.north), self.shown(self.south))
+        for till in self.north, self.south:
+            rows = till.rows("stock")
+            self.assertEqual(sorted(rows), [("glue", 4, ""), ("nails", 90, ""), ("rope", 1, None), ("saw", 100, "blunt")])
+            self.assertEqual([row.more for row in rows], [(None,)] * 4)
 
         self.south.close()
         self.south = self.till(2, WIDE)
