@@ -12,7 +12,8 @@ A column whose name ends in `*` is one of the key. A value is None, an int of 64
 
 A hub may give a table more columns, behind those that it has (widen.py). Who handed the first names alone goes on as before: a row that is inserted has
 None in the further columns, an update leaves them, and `more` of a Row or of Columns has their values. A name that ends in `+` is that of a later column.
-It may be handed before this replica has heard of the column: until then that is None, and to set it is refused as `Width`.
+It may be handed before this replica has heard of the column: until then that is None, and to set it is refused as `Width`. A new file begins with the
+columns without `+`, as the hub's log does.
 
 A Replica drives one process, `sync node --follow`, which holds the file until `close`. What a call did is in the file when it returns. A call that is refused raises
 the exception of that name (`Exists`, `Missing`, ..), and has changed nothing. Threads may share a Replica: one edits while another syncs.
