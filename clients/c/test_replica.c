@@ -1,5 +1,5 @@
-/* The tests of replica.c: test_replica PROGRAM FOLDER PORT TOKEN TOKEN. At that port is a gateway over an empty hub of `stock:100`, with these tokens of the replicas 1
-   and 2. bench/check_clients.sh runs them. Each call's outcome is compared, and the first that is another is told with its line. */
+/* The tests of replica.c: test_replica PROGRAM FOLDER PORT TOKEN TOKEN TOKEN. At that port is a gateway over an empty hub of `stock:100`, with these tokens of the replicas
+   1 and 2 and of the administrator. bench/check_clients.sh runs them. Each call's outcome is compared, and the first that is another is told with its line. */
 #include "replica.h"
 #include <stdio.h>
 #include <stdlib.h>
@@ -243,7 +243,26 @@ static void wider(void) {
     replica_close(till);
 }
 
-static void hub(struct replica_http *by_north, struct replica_http *by_south) {
+/* Two tills whose table gets two columns, while one has a push under way and the other a change pending. */
+static void widened(struct replica *north, struct replica *south, struct replica_http *by_north, struct replica_http *by_south, struct replica_http *by_admin) {
+    done(replica_update(north, "stock", REPLICA_VALUES(replica_text("nails"), replica_integer(50), replica_same())));
+    done(replica_insert(south, "stock", REPLICA_VALUES(replica_text("tape"), replica_integer(2), replica_text(""))));
+    owed(sync_by(south, away, NULL, NULL), "Away");
+    char *answer = replica_http_exchange(by_admin, "04" "0000000000000001" "0000000000000005" "00000005" "00000005" "73746f636b\n");
+    owed(answer, "11" "ffffffff" "0000000000000001" "0000000000000006\n");
+    free(answer);
+    owed(sync_by(south, replica_http_exchange, by_south, NULL), "taken 1 version 7");
+    owed(sync_by(north, replica_http_exchange, by_north, NULL), "taken 2 version 8");
+    owed(sync_by(south, replica_http_exchange, by_south, NULL), "taken 1 version 8");
+    done(replica_update(south, "stock", REPLICA_VALUES(replica_text("nails"), replica_same(), replica_same(), replica_same(), replica_integer(7))));
+    done(replica_delete(north, "stock", REPLICA_VALUES(replica_text("nails"))));
+    owed(sync_by(south, replica_http_exchange, by_south, NULL), "taken 0 version 9");
+    owed(sync_by(north, replica_http_exchange, by_north, "k"), "notfound k u stock 'nails'5 = = = NULL > = = = = 7; none;d stock 'nails'5 50 ''0 NULL NULL > none;taken 1 version 10");
+    owed(sync_by(south, replica_http_exchange, by_south, NULL), "taken 1 version 10");
+    owed(rows(south, "stock"), " 'rope'4 1 NULL NULL NULL; 'tape'4 2 ''0 NULL NULL;");
+}
+
+static void hub(struct replica_http *by_north, struct replica_http *by_south, struct replica_http *by_admin) {
     struct replica *north = open_as("north.db", 1, stock), *south = open_as("south.db", 2, stock);
     const char *const articles[] = {"nails", "saw"};
     for (int at = 0; at < 2; at++) done(replica_insert(north, "stock", REPLICA_VALUES(replica_text(articles[at]), replica_integer(100), replica_text(""))));
@@ -287,14 +306,16 @@ static void hub(struct replica_http *by_north, struct replica_http *by_south) {
         owed(rows(tills[at], "stock"), " 'rope'4 1 NULL; 'nails'5 60 ''0;");
         owed(place(tills[at]), "5 0 0");
     }
+    widened(north, south, by_north, by_south, by_admin);
     replica_close(north), replica_close(south);
 }
 
 int main(int count, char **words) {
-    if (count != 6) return 2;
+    if (count != 7) return 2;
     program = words[1], folder = words[2];
     tables();
     wider();
-    hub(&(struct replica_http){"127.0.0.1", words[3], "/", words[4]}, &(struct replica_http){"127.0.0.1", words[3], "/", words[5]});
+    hub(&(struct replica_http){"127.0.0.1", words[3], "/", words[4]}, &(struct replica_http){"127.0.0.1", words[3], "/", words[5]},
+        &(struct replica_http){"127.0.0.1", words[3], "/", words[6]});
     return 0;
 }
