@@ -1,5 +1,5 @@
 /* Checks the library cs_embed as a C program meets it, through cs_embed.h: two tills and a hub in one process, of which one conflict is answered by
- * keeping the own row and one by taking the other's; files and lines that are refused; too little room. What is owed was
+ * keeping the own row and one by taking the other's; files and lines that are refused; a wider table; too little room. What is owed was
  * written by hand. Nothing may be written beyond what is owed, and all memory has to be given back, also where allocations are
  * refused, whether all of them in turn or some drawn from all.
  *
@@ -198,6 +198,33 @@ static void keep(const char *folder, const char *name, struct bytes file) {
     owe(to && fwrite(file.all, 1, file.length, to) == file.length && fclose(to) == 0, "it isn't written", path);
 }
 
+/* The hub's table is given a fourth column at version 3, and a replica takes that. */
+#define WIDENS "04" "0000000000000001" "0000000000000003" "00000004" "00000005" "73746f636b\n"
+#define TAKES "answer 14" "0000000000000003" "00000001" "01" "ffffffff" "0000000000000001" "00000009" "00000004" "73746f636b -\n"
+
+/* The tills go on by the three columns that they began with, or by all four. The hub's are those that it began with. */
+static size_t widen(struct bytes *north, struct bytes *south, struct bytes *hub, size_t most) {
+    struct bytes told, left;
+    tell(north, 1, "edit update stock t=glue 1 -\n", "ok\n");
+    free(ask(south, 2, "edit insert stock t=saw 3 t=\npush\n", NULL));
+    size_t wanting = starve(&(struct call){STOCK, sizeof STOCK, 0, *hub, WIDENS}, most);
+    tell(hub, 0, WIDENS WIDENS, "11ffffffff" "0000000000000001" "0000000000000004\n" "11ffffffff" "0000000000000001" "0000000000000004\n");
+    tell(hub, 0, "04" "0000000000000002" "0000000000000004" "00000004" "00000005" "73746f636b\n", "132e\n");
+    talk(south, 2, hub, "resend\n", "-", "stale 4\n");
+    wanting += starve(&(struct call){STOCK, sizeof STOCK, 2, *south, TAKES "dump\n"}, most);
+    talk(south, 2, hub, "pull 10\n", "-", "taken 1 version 4\n");
+    tell(south, 2, "dump\n", "replica 2 version 4 pending 1 flight 0\nrow stock t=saw 3 t= null\nrow stock t=glue 2 t= null\nrow stock t=nails 90 t= null\n");
+    talk(south, 2, hub, "push\n", "-", "accepted 5\n");
+    talk(north, 1, hub, "catch 10\n", "-", "taken 1 version 4\n");
+    talk(north, 1, hub, "catch 10\n", "-", "taken 1 version 5\n");
+    work(&(struct call){WIDE, sizeof WIDE, 1, *north, "edit insert stock t=oil 1 t=\nedit update stock t=glue - - 7\n"}, &told, &left);
+    owe(!strcmp((char *)told.all, "refused Width\nok\n"), "another text", "four columns");
+    free(told.all), free(left.all);
+    tell(north, 1, "dump\n", "replica 1 version 5 pending 1 flight 0\nrow stock t=saw 3 t= null\nrow stock t=glue 1 t= null\nrow stock t=nails 90 t= null\n");
+    refuse("a hub by its wider tables", &(struct call){WIDE, sizeof WIDE, 0, *hub, ""}, CS_EMBED_MISMATCH, 0);
+    return wanting;
+}
+
 #define ROWS "row stock t=glue 2 t=\nrow stock t=nails 90 t=\n"
 
 int main(int count, char **words) {
@@ -253,6 +280,7 @@ int main(int count, char **words) {
     wanting += starve(&(struct call){STOCK, sizeof STOCK, 3, none, "edit insert stock t=tape 1 null\npush\n"}, most);
     wanting += starve(&(struct call){STOCK, sizeof STOCK, 1, north, "edit delete stock t=glue\npush\nresend\ndump\n"}, most);
     wanting += starve(&(struct call){STOCK, sizeof STOCK, 0, hub, ""}, most);
+    wanting += widen(&north, &south, &hub, most);
     free(north.all), free(south.all), free(hub.all);
     printf("cs_embed from C: %zu calls, %zu with want of memory\n", calls, wanting);
     return 0;

@@ -1,6 +1,6 @@
 #!/usr/bin/env python3
 """Checks the library cs_embed as a program in Python meets it, by ctypes: two tills and a hub in one process, over files that it keeps whole. One conflict is answered
-by keeping the own row, one by taking the other's. What the library hands over is opened by SQLite, which also makes the damaged and foreign files that are to be
+by keeping the own row, one by taking the other's. A table gets a column. What the library hands over is opened by SQLite, which also makes the damaged and foreign files that are to be
 refused by name. Where the program `sync` is given, it goes on with these files, and the library with what it leaves.
 
 Usage: check_embed.py LIBRARY FOLDER [SYNC]       LIBRARY is libcs_embed.so, FOLDER one to write into
@@ -9,6 +9,7 @@ import ctypes, os, sqlite3, subprocess, sys
 
 NAMES = {1: "Memory", 50: "NoTables", 60: "line", 61: "Damaged", 62: "Device", 63: "Mismatch", 64: "BadId"}
 STOCK = b"T\3\1\0\0stock\0"     # a table `stock` of three columns, of which the first is the key
+WIDE = b"T\4\1\0\0\0stock\0"     # the same with one more
 HUB = None
 
 
@@ -181,6 +182,26 @@ def beside(program, north, south, hub):
     owe("the rows", run(["node", south.path, "2", "stock:100"], ["dump"])[1:], ["row stock t=nails 90 t="])
 
 
+def wider(program, north, south, hub):
+    """The hub gives its table a fourth column. The tills' files are opened by three columns and by four, the hub's by three."""
+    at = int(south.ask("dump")[0].split()[3])
+    widen = "04%016x%016x%08x%08x%s" % (1, at, 4, 5, b"stock".hex())
+    owe("a wider table", hub.ask(widen, widen), ["11ffffffff%016x%016x" % (1, at + 1)] * 2)
+    for till in north, south:
+        talk(till, hub, "catch 10", "-", [f"taken 1 version {at + 1}"])
+    owe("the edits", north.ask("edit insert stock t=oil 1 t=", "edit insert stock t=oil 1 t= 7"), ["refused Width", "ok"])
+    talk(north, hub, "push", "-", [f"accepted {at + 2}"])
+    talk(south, hub, "pull 10", "-", [f"taken 1 version {at + 2}"])
+    dump = [f"replica 2 version {at + 2} pending 0 flight 0", "row stock t=oil 1 t= 7", *[row + " null" for row in (ROWS[1:] if program else ROWS)]]
+    owe("the rows by three columns", south.ask("dump"), dump)
+    owe("the rows by four", call(2, south.bytes(), b"dump\n", tables=WIDE)[0], dump)
+    refused("the hub by four", "Mismatch", HUB, hub.bytes(), b"", tables=WIDE)
+    if program:
+        for word in "stock:100", "stock:1000":
+            ran = subprocess.run([program, "node", south.path, "2", word], input="dump\n", capture_output=True, text=True, check=True)
+            owe("the program's rows", ran.stdout.splitlines(), dump)
+
+
 looked = 0
 library = load(os.path.abspath(sys.argv[1]))
 folder = sys.argv[2]
@@ -194,4 +215,5 @@ opens(tills[2], {"rows": 2, "log": 3, "pending": 0})
 files(tills[0], tills[2])
 if len(sys.argv) > 3:
     beside(sys.argv[3], *tills)
+wider(sys.argv[3] if len(sys.argv) > 3 else None, *tills)
 print(f"cs_embed from Python: {looked} answers as they are owed{', and the program beside it' if len(sys.argv) > 3 else ''}")

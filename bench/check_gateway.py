@@ -3,6 +3,7 @@ for each of its lines or few of them. The parts, in order:
 
 - a conflict that is kept, one that is taken, and an answer that is lost;
 - what the gateway refuses: tokens, origins, lengths, bodies, paths; and what it hands on for the hub to refuse. The hub's log stays as it is;
+- a table that the administrator gives a column while both tills are away, with one's change under way and the other's pending;
 - clients that hang up, that are slow, and many at a time, each of which is owed its own answers;
 - a hub that gives no answer, one whose file may not grow, a second gateway on the file, and the end by SIGTERM, behind which no process is left;
 - drawn work: edits, syncs of which answers are lost, and the hub, the gateway or both killed (SIGKILL) on the way and started again.
@@ -25,10 +26,11 @@ import threading
 import time
 
 GATEWAY = os.path.join(os.path.dirname(os.path.abspath(__file__)), "..", "hub", "gateway.py")
-TABLE = "stock:100"
+TABLES = ["stock:100", "notes:10"]
 LIMIT = 100
 PATIENCE = 60
-NORTH, SOUTH = "the-token-of-the-north", "the-token-of-the-south"
+NORTH, SOUTH, ADMIN = "the-token-of-the-north", "the-token-of-the-south", "the-token-of-the-admin"
+WIDEN = os.path.join(os.path.dirname(os.path.abspath(__file__)), "..", "clients", "python", "widen.py")
 NO_PULL = "02" + "0" * 24
 NO_ENTRIES = "14" + "0" * 24
 BYTES = "application/octet-stream"
@@ -54,10 +56,10 @@ class Gateway:
         self.folder = folder
         self.log = os.path.join(folder, "log")
         self.tokens = os.path.join(folder, "tokens")
-        self.hub = [program, "hub", "--file", os.path.join(folder, "hub.db"), TABLE]
+        self.hub = [program, "hub", "--file", os.path.join(folder, "hub.db"), *TABLES]
         self.process = None
         with open(self.tokens, "w") as file:
-            file.write("# the shop's\n1 %s\n\n2 %s\n" % (NORTH, SOUTH))
+            file.write("# the shop's\n1 %s\n\nadmin %s\n2 %s\n" % (NORTH, ADMIN, SOUTH))
 
     def command(self, seconds, tokens=None, hub=None):
         return [sys.executable, GATEWAY, "--seconds", str(seconds), "--most-bytes", "65536", "0", tokens or self.tokens, *(hub or self.hub)]
@@ -175,7 +177,7 @@ class Till:
         self.name = name
         self.token = token
         self.path = os.path.join(folder, name + ".db")
-        self.words = [program, "node", self.path, str(number), TABLE]
+        self.words = [program, "node", self.path, str(number), *TABLES]
         self.inserted = 0
         self.sure = set()
         self.accepted = set()
@@ -283,13 +285,19 @@ class Shop:
             self.refuses("the token %r" % token[:30], wanted, post(NO_PULL.encode(), token))
         self.refuses("no token", 401, ask("POST", "/", line, {}))
         self.refuses("a token of another kind", 401, ask("POST", "/", line, {"Authorization": "Basic " + SOUTH}))
+        wider = widening(1, 0, "notes", 3)
         for what, body in ("another's push", line), ("the same in capitals", line.upper()), ("another's catch", catch.encode()), \
-                ("another's push behind a pull", NO_PULL.encode() + b"\n" + line), ("a push without an origin", b"01"):
+                ("another's push behind a pull", NO_PULL.encode() + b"\n" + line), ("a push without an origin", b"01"), \
+                ("a wider table", wider), ("the same behind a pull", NO_PULL.encode() + b"\n" + wider), ("no more than its tag", b"04"):
             self.refuses(what, 403, post(body, NORTH))
-        self.refuses("another's push, as bytes", 403, post(bytes.fromhex(push), NORTH, **{"Content-Type": BYTES}))
+        for message, token in (push, NORTH), (wider.decode(), SOUTH):
+            self.refuses("the bytes %.20s" % message, 403, post(bytes.fromhex(message), token, **{"Content-Type": BYTES}))
+        for what, body in ("the administrator's push", line), ("the administrator's catch", catch.encode()), ("a push without an origin", b"01"):
+            self.refuses(what, 403, post(body, ADMIN))
+        owed("why a wider table is refused", post(wider, SOUTH), (403, b"only the administrator's token gives a table more columns\n"))
         for what, body in ("no hex", b"hello"), ("half a byte", b"020"), ("a space", b"02 00"), ("a return", line[:-1] + b"\r\n"), \
                 ("no hex behind the own push", line + b"x\n"), ("bytes as lines", bytes.fromhex(push)), ("too many lines", b"02\n" * 1001), \
-                ("no request", b"04"), ("an answer", b"1302"), ("an empty line", b"\n"), ("an empty line behind the own push", line + b"\n"), \
+                ("no request", b"05"), ("an answer", b"1302"), ("an empty line", b"\n"), ("an empty line behind the own push", line + b"\n"), \
                 ("a pull of all entries", b"02" + b"0" * 16 + b"f" * 8), ("a catch of all entries", b"0300000002" + b"0" * 16 + b"f" * 8):
             self.refuses(what, 400, post(body, SOUTH))
         self.refuses("a body that is too long", 413, post(line + b"0" * (1 << 20), SOUTH))
@@ -304,9 +312,52 @@ class Shop:
         self.refuses("no HTTP", 400, self.raw(b"hello there you\r\n\r\n"))
         # What is no matter of tokens and lengths the hub judges itself.
         owed("what the hub refuses", self.gateway.answers(["02", NO_PULL + "00", "0100000001", NO_PULL], NORTH), ["1302", "1315", "1302", NO_ENTRIES])
+        owed("what it refuses the administrator", self.gateway.answers([
+            "04", wider.decode() + "00", widening(1, 0, b"\xff", 3).decode(), widening(1, 1 << 40, "notes", 3).decode(), NO_PULL], ADMIN),
+            ["1302", "1315", "1306", "1328", NO_ENTRIES])
         owed("no request", post(b"", NORTH), (200, b""))
         owed("the log behind refusals", self.gateway.entries(), before)
         self.rest()
+
+    def widens(self):
+        """Both tills go on by the words that they had. The hub and their files are opened so again, in what comes behind."""
+        ask, before = self.gateway.answers, len(self.gateway.entries())
+        self.north.does("edit insert notes 1 t=one", "edit insert notes 2 t=two")
+        self.rest()
+        self.north.does("edit update notes 1 t=ONE")
+        late, = self.north.run("push")
+        self.south.does("edit delete notes 2", "edit insert notes 3 t=three")
+        for words, told in (["notes", "2"], "hub refused 46 BadWiden: there is no table notes, or it has as many columns"), \
+                (["note", "3"], "hub refused 46 BadWiden: there is no table note, or it has as many columns"), \
+                (["notes", "3"], "notes has 3 columns from version %s on" % (before + 2)), \
+                (["notes", "3"], "hub refused 46 BadWiden: there is no table notes, or it has as many columns"):
+            owed("the command %s" % words, self.widen(ADMIN, *words), told)
+        owed("the command with a till's token", self.widen(NORTH, "notes", "4"),
+             "the gateway says 403: only the administrator's token gives a table more columns")
+        origin, number = self.gateway.entries()[-1]
+        owed("whose entry it is", origin, (1 << 32) - 1)
+        owed("the same again, and another on its base", ask(
+            [widening(number, before + 1, "notes", 3).decode(), widening(number, before + 1, "notes", 4).decode()], ADMIN),
+            ["11ffffffff%016x%016x" % (number, before + 2), "12%016x" % (before + 2)])
+        owed("a push that comes late", ask([late], NORTH), ["12%016x" % (before + 2)])
+        self.rest()
+        rows = ["row notes 1 t=ONE null", "row notes 3 t=three null"]
+        for till in self.tills:
+            owed("the rows of %s" % till.name, till.rows()[1][-2:], rows)
+        self.north.does("edit update notes 1 - t=high", "edit insert notes 4 t=four 4")
+        owed("an edit of the old width", self.north.run("edit insert notes 5 t=five"), ["refused Width"])
+        self.south.does("edit update notes 1 t=one -")
+        self.rest()
+        for till in self.tills:
+            owed("the rows of %s" % till.name, till.rows()[1][-3:], ["row notes 1 t=one t=high", rows[1], "row notes 4 t=four 4"])
+            till.sure.update(till.rows()[1][-3:])
+
+    def widen(self, token, *words):
+        """What the administrator's command tells."""
+        ran = subprocess.run([sys.executable, "-B", WIDEN, "http://127.0.0.1:%s/" % self.gateway.port, *words], capture_output=True, text=True,
+                             env={**os.environ, "TOKEN": token}, timeout=PATIENCE)
+        owed("how the command %s ends" % (words,), (ran.returncode, bool(ran.stdout), bool(ran.stderr)), (0, True, False) if ran.stdout else (1, False, True))
+        return (ran.stdout or ran.stderr).strip()
 
     def raw(self, request, is_all=False):
         """What is answered to bytes that no library would send: a status, and the body."""
@@ -437,9 +488,11 @@ class Shop:
         with socket.create_connection(("127.0.0.1", self.gateway.port)):
             self.gateway.stop()
         kept.close()
-        self.gateway.fails("other tables", 1, "sync: Mismatch", hub=[*self.gateway.hub[:-1], "stock:10"])
+        for words in ["stock:10", "notes:10"], ["stock:100", "notes:100"]:
+            self.gateway.fails("the tables %s" % words, 1, "sync: Mismatch", hub=[*self.gateway.hub[:-2], *words])
         self.gateway.fails("no program", 1, "can't be started", hub=[os.path.join(self.folder, "none"), "hub"])
-        for text in "", "1 short\n", "1\n", "x %s\n" % NORTH, "4294967296 %s\n" % NORTH, "1 %s\n2 %s\n" % (NORTH, NORTH):
+        for text in "", "1 short\n", "1\n", "x %s\n" % NORTH, "4294967296 %s\n" % NORTH, "1 %s\n2 %s\n" % (NORTH, NORTH), \
+                "admin\n", "admin short\n", "admins %s\n" % NORTH, "1 %s\nadmin %s\n" % (NORTH, NORTH):
             path = os.path.join(self.folder, "bad")
             with open(path, "w") as file:
                 file.write(text)
@@ -510,6 +563,12 @@ class Shop:
         return len(log), len(rows)
 
 
+def widening(number, base, table, width):
+    """A request for a wider table, as a line of hex."""
+    name = table if isinstance(table, bytes) else table.encode()
+    return b"04%016x%016x%08x%08x%s" % (number, base, width, len(name), name.hex().encode())
+
+
 def selected(path, query):
     found = sqlite3.connect(path)
     try:
@@ -527,7 +586,7 @@ def main():
     try:
         shop.gateway.start()
         shop.gateway.gets_well()
-        for part in shop.conflicts, shop.answer_lost, shop.refusals, shop.hang_ups, shop.many, shop.slow, shop.full, shop.ends:
+        for part in shop.conflicts, shop.answer_lost, shop.refusals, shop.widens, shop.hang_ups, shop.many, shop.slow, shop.full, shop.ends:
             part()
         for _ in range(steps):
             shop.drawn()

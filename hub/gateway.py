@@ -4,11 +4,13 @@
     gateway.py [--most-bytes N] [--seconds S] PORT TOKENS PROGRAM hub --file FILE TABLE...
 
 `POST /` takes requests and gives their answers in order: a line of hex each, or, as `application/octet-stream`, the bytes of one.
-`GET /health` says whether the hub answers. TOKENS is a file with a line `ID TOKEN` for each replica, and a request carries
-`Authorization: Bearer TOKEN`. With port 0 the system chooses one. The first line of the output is `ready PORT`.
+`GET /health` says whether the hub answers. TOKENS is a file with a line `ID TOKEN` for each replica, and `admin TOKEN` for the
+administrator. A request carries `Authorization: Bearer TOKEN`. With port 0 the system chooses one. The first line of the output is
+`ready PORT`.
 
 Who may speak for whom is judged here, since the hub believes any origin: a push or a catch is handed on where its origin is the
-token's replica. A body is judged whole before its first line is handed on. What the hub does with it is the hub's own.
+token's replica. What gives a table more columns is handed on for the administrator alone, who has no origin. A body is judged whole
+before its first line is handed on. What the hub does with it is the hub's own.
 
 One process of the hub owns the file, and is asked one request at a time. It is started again where it has ended, tells that its device
 failed, or gives no answer in time. To ask again is safe: a push counts once however often it comes, and the others only read.
@@ -44,7 +46,8 @@ PAUSES = (0.0, 0.2, 0.5, 1.0)       # before the hub is started: the one before 
 GRACE = 0.2                         # for a hub that is dropped, to end by itself
 SHORTEST_TOKEN = 16
 
-PUSH, PULL, CATCH = b"\x01", b"\x02", b"\x03"
+PUSH, PULL, CATCH, WIDEN = b"\x01", b"\x02", b"\x03", b"\x04"
+ADMINISTRATOR = b"admin"            # in the place of an origin: no four bytes are this
 PROBE = PULL + bytes(12)            # a pull of no entries
 PROBE_ANSWER = b"\x14" + bytes(12)
 DEVICE = b"\x13\x2c"                # the hub's device failed; only a hub that opens the file anew may go on
@@ -247,20 +250,21 @@ class Refusal(Exception):
 
 
 def read_tokens(path: str) -> dict[bytes, bytes]:
-    """The replica of each token, as the four bytes of an origin. A replica may have several, as while one is replaced."""
+    """The replica of each token, as the four bytes of an origin, or the administrator. Each may have several, as while one is replaced."""
     tokens: dict[bytes, bytes] = {}
     with open(path, "rb") as file:
         for number, line in enumerate(file, 1):
             words = line.split()
             if not words or words[0].startswith(b"#"):
                 continue
-            if len(words) != 2 or not words[0].isdigit() or int(words[0]) >= 1 << 32:
-                raise ValueError(f"line {number} isn't `ID TOKEN`")
+            is_admin = words[0] == ADMINISTRATOR
+            if len(words) != 2 or not is_admin and not (words[0].isdigit() and int(words[0]) < 1 << 32):
+                raise ValueError(f"line {number} is neither `ID TOKEN` nor `admin TOKEN`")
             if len(words[1]) < SHORTEST_TOKEN:
                 raise ValueError(f"line {number}: a token has at least {SHORTEST_TOKEN} characters")
             if words[1] in tokens:
                 raise ValueError(f"line {number}: the token stands in an earlier line")
-            tokens[words[1]] = int(words[0]).to_bytes(4, "big")
+            tokens[words[1]] = ADMINISTRATOR if is_admin else int(words[0]).to_bytes(4, "big")
     if not tokens:
         raise ValueError("no token stands there")
     return tokens
@@ -285,8 +289,10 @@ def read_lines(body: bytes) -> list[bytes]:
 def judge(message: bytes, origin: bytes) -> None:
     """Refuses what is no request, one in another's name, and one for more entries than may be asked for. What else is wrong the hub says."""
     tag = message[:1]
-    if tag not in (PUSH, PULL, CATCH):
-        raise Refusal(HTTPStatus.BAD_REQUEST, "what begins with neither 01, 02 nor 03 is no request")
+    if tag not in (PUSH, PULL, CATCH, WIDEN):
+        raise Refusal(HTTPStatus.BAD_REQUEST, "what begins with none of 01 to 04 is no request")
+    if tag == WIDEN and origin != ADMINISTRATOR:
+        raise Refusal(HTTPStatus.FORBIDDEN, "only the administrator's token gives a table more columns")
     if tag in (PUSH, CATCH) and message[1:5] != origin:
         raise Refusal(HTTPStatus.FORBIDDEN, "a push or a catch whose origin isn't the token's replica")
     limit = message[9:13] if tag == PULL else message[13:17] if tag == CATCH else b""
@@ -388,7 +394,7 @@ class Door(BaseHTTPRequestHandler):
         return TEXT, b"ok\n"
 
     def origin(self) -> bytes:
-        """The replica whose token came with the request."""
+        """The replica whose token came with the request, or the administrator."""
         scheme, _, word = self.headers.get("Authorization", "").partition(" ")
         given = word.strip().encode("latin-1", "replace")
         found = None
@@ -396,8 +402,8 @@ class Door(BaseHTTPRequestHandler):
             if hmac.compare_digest(token, given):
                 found = origin
         if found is None or scheme.lower() != "bearer":
-            raise Refusal(HTTPStatus.UNAUTHORIZED, "no replica has this token")
-        self.who = f"replica {int.from_bytes(found, 'big')}"
+            raise Refusal(HTTPStatus.UNAUTHORIZED, "nobody has this token")
+        self.who = "the administrator" if found == ADMINISTRATOR else f"replica {int.from_bytes(found, 'big')}"
         return found
 
     def body_size(self) -> int:
@@ -513,7 +519,7 @@ def read_command_line() -> argparse.Namespace:
     parser.add_argument("--most-bytes", type=int, default=MOST_BYTES, help="of a body (%(default)s)")
     parser.add_argument("--seconds", type=float, default=SECONDS, help="for each part of a request (%(default)s)")
     parser.add_argument("port", type=int, help="0: the system chooses one")
-    parser.add_argument("tokens", help="a file with a line `ID TOKEN` for each replica")
+    parser.add_argument("tokens", help="a file with a line `ID TOKEN` for each replica, and `admin TOKEN`")
     parser.add_argument("command", nargs=argparse.REMAINDER, help="sync hub --file FILE TABLE...")
     asked = parser.parse_args()
     if asked.most_bytes < 1 or not 0 < asked.seconds <= LONGEST or not 0 <= asked.port < 1 << 16 or not asked.command:

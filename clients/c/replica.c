@@ -14,7 +14,7 @@
 
 extern char **environ;
 
-enum { AT_ONCE = 1000 /* entries that one catch asks for */, PIECE = 16384, PATIENCE = 90 /* seconds */ };
+enum { AT_ONCE = 1000 /* entries that one catch asks for */, PIECE = 16384, PATIENCE = 90 /* seconds */, MOST_COLUMNS = 2000 /* of a table */ };
 
 /* ---- texts that grow. Once memory was wanting one is short, until it begins anew */
 
@@ -70,14 +70,24 @@ static void put_value(struct text *text, const struct replica_value *value) {
     }
 }
 
-/* A line of words, a table and values. */
-static void put_line(struct text *text, const char *words, const char *table, const struct replica_value *values, size_t count) {
+/* Words, a table and values: a line without its end. */
+static void put_front(struct text *text, const char *words, const char *table, const struct replica_value *values, size_t count) {
     put_spelled(text, words, table, strlen(table));
     for (size_t at = 0; at < count; at++) put_value(text, values + at);
+}
+
+static void put_line(struct text *text, const char *words, const char *table, const struct replica_value *values, size_t count) {
+    put_front(text, words, table, values, count);
     put_words(text, "\n");
 }
 
 /* ---- the process */
+
+/* A table with so many columns in the word that it was opened by, and as many as it is known to have: a hub may have given it more. */
+struct table {
+    char *name;
+    size_t first, width;
+};
 
 struct replica {
     pid_t process;
@@ -86,6 +96,8 @@ struct replica {
     char **words; /* of a line of the reply, and behind the same places the values that are read of them */
     struct replica_value *values;
     size_t room;
+    struct table *tables;
+    size_t count;
     char name[128];
     int is_busy;
 };
@@ -182,6 +194,34 @@ static const char *connect_to(struct replica *replica, const char **words) {
     return ask_line(replica, "place\n");
 }
 
+static int digit_of(char digit) { return digit <= '9' ? digit - '0' : (digit | 32) - 'a' + 10; }
+
+/* Reads the bytes that a word spells in their places. */
+static size_t spelled(char *word) {
+    char *to = word;
+    for (char *from = word; *from; to++) {
+        if (*from == '%' && from[1] && from[2]) *to = (char)(digit_of(from[1]) * 16 + digit_of(from[2])), from += 3;
+        else *to = *from++;
+    }
+    *to = 0;
+    return (size_t)(to - word);
+}
+
+/* Keeps the tables of these words. A word that is none the program refuses. */
+static const char *keep_tables(struct replica *replica, const char *const *words, size_t count) {
+    if (!(replica->tables = calloc(count + 1, sizeof *replica->tables))) return "Memory";
+    for (; replica->count < count; replica->count++) {
+        struct table *table = replica->tables + replica->count;
+        if (!(table->name = malloc(strlen(words[replica->count]) + 1))) return "Memory";
+        char *marks = strrchr(strcpy(table->name, words[replica->count]), ':');
+        if (!marks) continue;
+        table->first = table->width = strlen(marks + 1);
+        *marks = 0;
+        spelled(table->name);
+    }
+    return NULL;
+}
+
 const char *replica_open(struct replica **made, const char *program, const char *file, uint32_t id, const char *const *tables) {
     char number[16], *path;
     size_t count = 0;
@@ -191,7 +231,7 @@ const char *replica_open(struct replica **made, const char *program, const char 
     if ((path = malloc(strlen(file) + 3))) sprintf(path, "%s%s", *file == '/' ? "" : "./", file);
     if (replica) replica->line = -1;
     const char *refused = "Memory";
-    if (replica && words && path) {
+    if (replica && words && path && !keep_tables(replica, tables, count)) {
         snprintf(number, sizeof number, "%" PRIu32, id);
         words[0] = program, words[1] = "node", words[2] = "--follow", words[3] = path, words[4] = number;
         for (size_t at = 0; at < count; at++) words[5 + at] = tables[at];
@@ -205,57 +245,110 @@ void replica_close(struct replica *replica) {
     if (!replica) return;
     end(replica);
     free(replica->asked.bytes), free(replica->reply.bytes), free(replica->requests.bytes), free(replica->wishes.bytes);
-    free(replica->words), free(replica->values), free(replica);
+    while (replica->count) free(replica->tables[--replica->count].name);
+    free(replica->words), free(replica->values), free(replica->tables), free(replica);
 }
 
 /* ---- edits */
 
 static const char *const verbs[] = {"edit insert ", "edit update ", "edit delete "};
 
-static const char *make(struct replica *replica, enum replica_operation operation, const char *table, const struct replica_value *values, size_t count) {
-    begin(&replica->asked, "");
-    put_line(&replica->asked, verbs[operation], table, values, count);
-    return ask(replica);
+static struct table *table_of(struct replica *replica, const char *name) {
+    for (size_t at = 0; at < replica->count; at++)
+        if (!strcmp(replica->tables[at].name, name)) return replica->tables + at;
+    return NULL;
+}
+
+/* Whether values may stand before columns that this program doesn't know. A key is no such. */
+static int may_be_front(const struct table *table, const struct replica_edit *edit) {
+    return table && edit->operation != REPLICA_DELETE && edit->count >= table->first;
+}
+
+/* The line of an edit. Behind its values nothing is set, as far as the table is known to have columns. */
+static void put_edit(struct replica *replica, const struct replica_edit *edit) {
+    const struct table *table = table_of(replica, edit->table);
+    put_front(&replica->asked, verbs[edit->operation], edit->table, edit->values, edit->count);
+    if (may_be_front(table, edit))
+        for (size_t at = edit->count; at < table->width; at++) put_words(&replica->asked, edit->operation == REPLICA_INSERT ? " null" : " -");
+    put_words(&replica->asked, "\n");
+}
+
+/* Whether a table has more columns than it was known to have. No line tells how many: where a row of nothing but NULL is as wide, it is refused as `NullKey`. */
+static const char *grow(struct replica *replica, struct table *table, int *has_grown) {
+    *has_grown = 0;
+    for (size_t width = table->width; width <= MOST_COLUMNS; width++) {
+        begin(&replica->asked, "");
+        put_front(&replica->asked, verbs[REPLICA_INSERT], table->name, NULL, 0);
+        for (size_t at = 0; at < width; at++) put_words(&replica->asked, " null");
+        put_words(&replica->asked, "\n");
+        const char *refused = ask(replica);
+        if (refused && !strcmp(refused, "NullKey")) {
+            *has_grown = width > table->width, table->width = width;
+            return NULL;
+        }
+        if (!refused || strcmp(refused, "Width")) return refused ? refused : "unread";
+    }
+    return NULL;
+}
+
+/* What an edit was refused as, where that is `Width`: unless its table has more columns by now, so that it is to be made again. */
+static const char *unless_grown(struct replica *replica, const struct replica_edit *edit, int *is_again) {
+    struct table *table = table_of(replica, edit->table);
+    *is_again = 0;
+    const char *refused = may_be_front(table, edit) ? grow(replica, table, is_again) : NULL;
+    return refused ? refused : "Width";
+}
+
+static const char *make(struct replica *replica, const struct replica_edit edit) {
+    int is_again = 1;
+    const char *refused = NULL;
+    while (is_again) {
+        is_again = 0;
+        begin(&replica->asked, "");
+        put_edit(replica, &edit);
+        refused = ask(replica);
+        if (refused && !strcmp(refused, "Width")) refused = unless_grown(replica, &edit, &is_again);
+    }
+    return refused;
 }
 
 const char *replica_insert(struct replica *replica, const char *table, const struct replica_value *values, size_t count) {
-    return make(replica, REPLICA_INSERT, table, values, count);
+    return make(replica, (struct replica_edit){REPLICA_INSERT, table, values, count});
 }
 
 const char *replica_update(struct replica *replica, const char *table, const struct replica_value *values, size_t count) {
-    return make(replica, REPLICA_UPDATE, table, values, count);
+    return make(replica, (struct replica_edit){REPLICA_UPDATE, table, values, count});
 }
 
 const char *replica_delete(struct replica *replica, const char *table, const struct replica_value *key, size_t count) {
-    return make(replica, REPLICA_DELETE, table, key, count);
+    return make(replica, (struct replica_edit){REPLICA_DELETE, table, key, count});
 }
 
-const char *replica_edits(struct replica *replica, const struct replica_edit *edits, size_t count, size_t *place) {
-    char line[32];
+/* Edits as one request. Where one is refused, its place among them, from 0, and the name of why. */
+static const char *make_all(struct replica *replica, const struct replica_edit *edits, size_t count, size_t *place) {
+    char line[32], *name;
     snprintf(line, sizeof line, "edits %zu\n", count);
     begin(&replica->asked, line);
-    for (size_t at = 0; at < count; at++) put_line(&replica->asked, verbs[edits[at].operation], edits[at].table, edits[at].values, edits[at].count);
+    for (size_t at = 0; at < count; at++) put_edit(replica, edits + at);
     const char *refused = ask(replica);
-    char *name;
     *place = count;
     if (!refused || *refused < '0' || *refused > '9') return refused;
     *place = (size_t)strtoull(refused, &name, 10) - 1;
     return name + 1;
 }
 
-/* ---- lines of the reply, read in their places */
-
-static int digit_of(char digit) { return digit <= '9' ? digit - '0' : (digit | 32) - 'a' + 10; }
-
-static size_t spelled(char *word) {
-    char *to = word;
-    for (char *from = word; *from; to++) {
-        if (*from == '%') *to = (char)(digit_of(from[1]) * 16 + digit_of(from[2])), from += 3;
-        else *to = *from++;
+const char *replica_edits(struct replica *replica, const struct replica_edit *edits, size_t count, size_t *place) {
+    int is_again = 1;
+    const char *refused = NULL;
+    while (is_again) {
+        is_again = 0;
+        refused = make_all(replica, edits, count, place);
+        if (refused && *place < count && !strcmp(refused, "Width")) refused = unless_grown(replica, edits + *place, &is_again);
     }
-    *to = 0;
-    return (size_t)(to - word);
+    return refused;
 }
+
+/* ---- lines of the reply, read in their places */
 
 static struct replica_value value_of(char *word) {
     if (!strcmp(word, "-")) return replica_same();

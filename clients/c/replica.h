@@ -4,7 +4,10 @@
 
    Each call returns NULL where it is done, else the name of why not, which is there until the next call: `Exists`, `Missing`, `NoTable`, `Width`, `NullKey`,
    `KeyColumn`, `Device`, `Memory`, .. Nothing has changed then. `Ended` says that the process is gone: close and open again. One thread at a time may use a
-   replica, and what a call calls back makes no call on it (`Busy`). */
+   replica, and what a call calls back makes no call on it (`Busy`).
+
+   A hub may give a table more columns, behind those of its word. What is shown has them then. An insert and an update take as many values as the word has columns, or
+   more, up to those that are there. Behind the values of an insert stands NULL, and behind those of an update nothing is changed. */
 #ifndef REPLICA_H
 #define REPLICA_H
 #include <stddef.h>
@@ -40,7 +43,8 @@ static inline struct replica_value replica_blob(const void *bytes, size_t length
 /* ---- a replica */
 
 /* Opens a replica, and makes the file where there is none. `program` is `sync` on the PATH, or where it is. A table is a word as `stock:100`, a digit a column and 1
-   for the key, and NULL stands behind the last. An id is below 4,294,967,295, and no other replica of the hub has or ever had it. Close it in any case. */
+   for the key, and NULL stands behind the last. It has the columns that the hub began with: what came later is found in the file. An id is below 4,294,967,295, and no
+   other replica of the hub has or ever had it. Close it in any case. */
 const char *replica_open(struct replica **replica, const char *program, const char *file, uint32_t id, const char *const *tables);
 
 /* Lets the process end, and the file go. */

@@ -1,11 +1,11 @@
-/* The tests of replica.c: test_replica PROGRAM FOLDER PORT TOKEN TOKEN. At that port is a gateway over an empty hub of `stock:100`, with these tokens of the replicas 1
-   and 2. bench/check_clients.sh runs them. Each call's outcome is compared, and the first that is another is told with its line. */
+/* The tests of replica.c: test_replica PROGRAM FOLDER PORT TOKEN TOKEN TOKEN. At that port is a gateway over an empty hub of `stock:100`, with these tokens of the replicas
+   1 and 2 and of the administrator. bench/check_clients.sh runs them. Each call's outcome is compared, and the first that is another is told with its line. */
 #include "replica.h"
 #include <stdio.h>
 #include <stdlib.h>
 
 static const char *program, *folder;
-static const char *const stock[] = {"stock:100", NULL}, *const sorts[] = {"all%20sorts:01", "stock:100", NULL};
+static const char *const stock[] = {"stock:100", NULL}, *const sorts[] = {"all%20sorts:01", "stock:100", NULL}, *const wide[] = {"stock:1000", NULL};
 
 static void owed_at(int line, int is_owed, const char *found) {
     if (is_owed) return;
@@ -132,6 +132,16 @@ static const char *sync_by(struct replica *replica, replica_exchange *exchange, 
     return refused ? refused : shown;
 }
 
+/* A hub that takes the first push of replica 8, and then gives the table `stock` six columns. */
+static char *widening(void *replica, const char *requests) {
+    static const char accepted[] = "11" "00000008" "0000000000000001" "0000000000000001\n", nothing[] = "14" "0000000000000002" "00000000\n";
+    static const char wider[] = "14" "0000000000000001" "00000001" "01" "ffffffff" "0000000000000001" "00000009" "00000006" "73746f636b\n";
+    struct replica_place place;
+    char *answers = calloc(1, sizeof accepted + sizeof wider);
+    owed(replica_where(replica, &place), "Busy");
+    return strncmp(requests, "01", 2) ? strcpy(answers, nothing) : strcat(strcpy(answers, accepted), wider);
+}
+
 /* ---- the tests */
 
 static void several(struct replica *till) {
@@ -198,7 +208,64 @@ static void tables(void) {
     replica_close(till);
 }
 
-static void hub(struct replica_http *by_north, struct replica_http *by_south) {
+/* A program that knows three columns, and one that knows six, on the same file. */
+static void wider(void) {
+    struct replica *till = open_as("wider.db", 8, stock);
+    size_t at;
+    const struct replica_edit edits[] = {{REPLICA_DELETE, "stock", REPLICA_VALUES(replica_text("nails"))},
+                                         {REPLICA_INSERT, "stock", REPLICA_VALUES(replica_text("oil"), replica_integer(2), replica_text(""))},
+                                         {REPLICA_UPDATE, "stock", REPLICA_VALUES(replica_text("oil"), replica_integer(3), replica_same())}};
+    done(replica_insert(till, "stock", REPLICA_VALUES(replica_text("nails"), replica_integer(100), replica_text(""))));
+    owed(replica_insert(till, "stock", REPLICA_VALUES(replica_text("saw"), replica_integer(1), replica_null(), replica_null())), "Width");
+    owed(sync_by(till, widening, till, NULL), "taken 1 version 2");
+    owed(rows(till, "stock"), " 'nails'5 100 ''0 NULL NULL NULL;");
+    done(replica_edits(till, edits, 3, &at));
+    holds(at == 3);
+    owed(pending(till), "i stock none > 'oil'3 3 ''0 NULL NULL NULL;d stock 'nails'5 100 ''0 NULL NULL NULL > none;");
+    owed(replica_edits(till, edits, 3, &at), "Missing");
+    holds(at == 0);
+    owed(replica_insert(till, "stock", REPLICA_VALUES(replica_text("saw"), replica_integer(1))), "Width");
+    owed(replica_update(till, "stock", REPLICA_VALUES(replica_text("oil"), replica_integer(1))), "Width");
+    replica_close(till);
+
+    till = open_as("wider.db", 8, stock);
+    done(replica_update(till, "stock", REPLICA_VALUES(replica_text("oil"), replica_same(), replica_text("red"))));
+    done(replica_update(till, "stock", REPLICA_VALUES(replica_text("oil"), replica_integer(4), replica_same(), replica_text("low"))));
+    done(replica_insert(till, "stock", REPLICA_VALUES(replica_text("saw"), replica_integer(1), replica_null(), replica_integer(7))));
+    const struct replica_value seven[7] = {replica_text("a")};
+    owed(replica_insert(till, "stock", seven, 7), "Width");
+    owed(replica_update(till, "stock", seven, 7), "Width");
+    owed(rows(till, "stock"), " 'oil'3 4 'red'3 'low'3 NULL NULL; 'saw'3 1 NULL 7 NULL NULL;");
+    replica_close(till);
+    till = open_as("wider.db", 8, wide);
+    owed(row(till, "oil"), " 'oil'3 4 'red'3 'low'3 NULL NULL;");
+    owed(replica_insert(till, "stock", REPLICA_VALUES(replica_text("glue"), replica_integer(1), replica_null())), "Width");
+    done(replica_insert(till, "stock", REPLICA_VALUES(replica_text("glue"), replica_integer(1), replica_null(), replica_text("high"))));
+    owed(row(till, "glue"), " 'glue'4 1 NULL 'high'4 NULL NULL;");
+    replica_close(till);
+}
+
+/* Two tills whose table gets two columns, while one has a push under way and the other a change pending. */
+static void widened(struct replica *north, struct replica *south, struct replica_http *by_north, struct replica_http *by_south, struct replica_http *by_admin) {
+    done(replica_update(north, "stock", REPLICA_VALUES(replica_text("nails"), replica_integer(50), replica_same())));
+    done(replica_insert(south, "stock", REPLICA_VALUES(replica_text("tape"), replica_integer(2), replica_text(""))));
+    owed(sync_by(south, away, NULL, NULL), "Away");
+    char *answer = replica_http_exchange(by_admin, "04" "0000000000000001" "0000000000000005" "00000005" "00000005" "73746f636b\n");
+    owed(answer, "11" "ffffffff" "0000000000000001" "0000000000000006\n");
+    free(answer);
+    owed(sync_by(south, replica_http_exchange, by_south, NULL), "taken 1 version 7");
+    owed(sync_by(north, replica_http_exchange, by_north, NULL), "taken 2 version 8");
+    owed(sync_by(south, replica_http_exchange, by_south, NULL), "taken 1 version 8");
+    done(replica_update(south, "stock", REPLICA_VALUES(replica_text("nails"), replica_same(), replica_same(), replica_same(), replica_integer(7))));
+    done(replica_delete(north, "stock", REPLICA_VALUES(replica_text("nails"))));
+    owed(sync_by(south, replica_http_exchange, by_south, NULL), "taken 0 version 9");
+#define GONE "notfound k u stock 'nails'5 = = = NULL > = = = = 7; none;d stock 'nails'5 50 ''0 NULL NULL > none;"
+    owed(sync_by(north, replica_http_exchange, by_north, "k"), GONE "taken 1 version 10");
+    owed(sync_by(south, replica_http_exchange, by_south, NULL), "taken 1 version 10");
+    owed(rows(south, "stock"), " 'rope'4 1 NULL NULL NULL; 'tape'4 2 ''0 NULL NULL;");
+}
+
+static void hub(struct replica_http *by_north, struct replica_http *by_south, struct replica_http *by_admin) {
     struct replica *north = open_as("north.db", 1, stock), *south = open_as("south.db", 2, stock);
     const char *const articles[] = {"nails", "saw"};
     for (int at = 0; at < 2; at++) done(replica_insert(north, "stock", REPLICA_VALUES(replica_text(articles[at]), replica_integer(100), replica_text(""))));
@@ -242,13 +309,16 @@ static void hub(struct replica_http *by_north, struct replica_http *by_south) {
         owed(rows(tills[at], "stock"), " 'rope'4 1 NULL; 'nails'5 60 ''0;");
         owed(place(tills[at]), "5 0 0");
     }
+    widened(north, south, by_north, by_south, by_admin);
     replica_close(north), replica_close(south);
 }
 
 int main(int count, char **words) {
-    if (count != 6) return 2;
+    if (count != 7) return 2;
     program = words[1], folder = words[2];
     tables();
-    hub(&(struct replica_http){"127.0.0.1", words[3], "/", words[4]}, &(struct replica_http){"127.0.0.1", words[3], "/", words[5]});
+    wider();
+    hub(&(struct replica_http){"127.0.0.1", words[3], "/", words[4]}, &(struct replica_http){"127.0.0.1", words[3], "/", words[5]},
+        &(struct replica_http){"127.0.0.1", words[3], "/", words[6]});
     return 0;
 }

@@ -10,6 +10,11 @@
 
 A column whose name ends in `*` is one of the key. A value is None, an int of 64 bits, a str or bytes. Prices are integers, as of cents.
 
+A hub may give a table more columns, behind those that it has (widen.py). Who handed the first names alone goes on as before: a row that is inserted has
+None in the further columns, an update leaves them, and `more` of a Row or of Columns has their values. A name that ends in `+` is that of a later column.
+It may be handed before this replica has heard of the column: until then that is None, and to set it is refused as `Width`. A new file begins with the
+columns without `+`, as the hub's log does.
+
 A Replica drives one process, `sync node --follow`, which holds the file until `close`. What a call did is in the file when it returns. A call that is refused raises
 the exception of that name (`Exists`, `Missing`, ..), and has changed nothing. Threads may share a Replica: one edits while another syncs.
 """
@@ -20,12 +25,12 @@ from typing import Any, Callable, Dict, Iterable, List, Mapping, NamedTuple, NoR
 from urllib.parse import quote, unquote, urlsplit
 
 Value = Union[None, int, str, bytes]
-Row = Tuple[Value, ...]
 Exchange = Callable[[List[str]], List[str]]     # requests to the hub in hex, and its answers in the same order
 
 AT_ONCE = 1000          # entries that one catch asks for
+MOST_COLUMNS = 2000     # of a table
 HEX = re.compile("(?:[0-9A-Fa-f]{2})+")
-CODES = {1: "Memory", 30: "UnknownTable", 31: "Shape", 40: "Ahead", 41: "Conflict", 43: "Full", 44: "Device"}
+CODES = {1: "Memory", 30: "UnknownTable", 31: "Shape", 40: "Ahead", 41: "Conflict", 43: "Full", 44: "Device", 46: "BadWiden"}
 
 
 class Refused(Exception):
@@ -37,7 +42,7 @@ class Refused(Exception):
 
 
 class NoTable(Refused): "There is no such table."
-class Width(Refused): "There are too few or too many values."
+class Width(Refused): "There are too few or too many values, or one of a later column that isn't there yet."
 class NullKey(Refused): "None stands in a key column."
 class KeyColumn(Refused): "An update names a key column. Delete the row and insert another."
 class Exists(Refused): "There is a row with this key."
@@ -78,7 +83,7 @@ class Edit(NamedTuple):
 
 
 def insert(table: str, /, *values: Value) -> Edit:
-    """Inserts a row, a value a column."""
+    """Inserts a row, a value a column. Those of later columns may be left out."""
     return Edit("insert", table, values, {})
 
 
@@ -92,12 +97,22 @@ def delete(table: str, /, *key: Value) -> Edit:
     return Edit("delete", table, key, {})
 
 
+class Row(Tuple[Value, ...]):
+    """A row, a value a name. `more` has the values of the columns behind, for which no name was handed."""
+    more: Tuple[Value, ...] = ()
+
+
+class Columns(Dict[str, Value]):
+    """Values by column. `more` has those of columns for which no name was handed, by their places in the row from 0."""
+    more: Dict[int, Value]
+
+
 class Change(NamedTuple):
     """A change of a row, by column: an `insert` has the `new` row, a `delete` the `old` one. An `update` has the key and the old values of what it changes, and their new ones."""
     table: str
     operation: str
-    old: Optional[Dict[str, Value]]
-    new: Optional[Dict[str, Value]]
+    old: Optional[Columns]
+    new: Optional[Columns]
 
 
 class Clash(NamedTuple):
@@ -105,7 +120,7 @@ class Clash(NamedTuple):
     table: str
     kind: str
     theirs: Change
-    row: Optional[Dict[str, Value]]
+    row: Optional[Columns]
     mine: Change
     may_keep: bool
     may_take: bool
@@ -168,14 +183,29 @@ def from_word(word: str) -> Value:
     return unquote(word[2:], errors="strict") if word.startswith("t=") else int(word)
 
 
+def name_of(column: str) -> str:
+    """A column's name without its mark."""
+    return column[:-1] if column.endswith(("*", "+")) else column
+
+
+def begun_with(table: str, columns: Sequence[str]) -> int:
+    """How many columns a table began with: those behind them came later."""
+    first = [column for column in columns if not column.endswith("+")]
+    if list(columns[:len(first)]) != first:
+        raise ValueError(f"{table}: a later column stands before another: {columns}")
+    return len(first)
+
+
 class Replica:
     """A replica in a file. Its id is a number below 4,294,967,295 that no other replica of the hub has or ever had. `program` is `sync`, or where it is."""
 
     def __init__(self, file: Union[str, "os.PathLike[str]"], id: int, tables: Mapping[str, Sequence[str]], program: str = "sync") -> None:
-        # Of each table the columns, in order, and whether they are of the key.
-        self.columns = {table: {column.removesuffix("*"): column.endswith("*") for column in columns} for table, columns in tables.items()}
+        # Of each table the columns, in order, and whether they are of the key; how many it began with, and how many it is known to have.
+        self.columns = {table: {name_of(column): column.endswith("*") for column in columns} for table, columns in tables.items()}
+        self._first = {table: begun_with(table, columns) for table, columns in tables.items()}
+        self._width = dict(self._first)
         self._turn, self._syncing, self._made = threading.RLock(), threading.RLock(), 0     # how many edits were made
-        words = [quote(table, "") + ":" + "".join("01"[is_key] for is_key in columns.values()) for table, columns in self.columns.items()]
+        words = [quote(table, "") + ":" + "".join("01"[is_key] for is_key in columns.values())[:self._first[table]] for table, columns in self.columns.items()]
         # A session of its own: Ctrl-C is for this program, which may go on.
         self._node = subprocess.Popen([program, "node", "--follow", os.path.abspath(file), str(id), *words], start_new_session=True,
                                       stdin=subprocess.PIPE, stdout=subprocess.PIPE, stderr=subprocess.PIPE)
@@ -184,39 +214,33 @@ class Replica:
         self.place()
 
     def insert(self, table: str, /, *values: Value) -> None:
-        """Inserts a row, a value a column."""
-        self._edit(self._spell(*insert(table, *values)))
+        """Inserts a row, a value a column. Those of later columns may be left out."""
+        self._edit([insert(table, *values)])
 
     def update(self, table: str, /, *key: Value, **fields: Value) -> None:
         """Sets these columns of the row with this key."""
-        self._edit(self._spell(*update(table, *key, **fields)))
+        self._edit([update(table, *key, **fields)])
 
     def delete(self, table: str, /, *key: Value) -> None:
         """Deletes the row with this key."""
-        self._edit(self._spell(*delete(table, *key)))
+        self._edit([delete(table, *key)])
 
     def edits(self, edits: Iterable[Edit]) -> None:
         """Makes these edits as one commit, in order: all or none. Each is refused as it would be alone, behind those before it, and the exception's `index` says which
         of the list it is, from 0. Words that no line could say, as too many values, are refused before the program sees any of the list."""
-        lines: List[str] = []
-        for edit in edits:
-            try:
-                lines.append(self._spell(*edit))
-            except Refused as refused:
-                refused.index = len(lines)
-                raise
-        self._edit("\n".join([f"edits {len(lines)}", *lines]))
+        made = list(edits)
+        self._edit(made, [f"edits {len(made)}"])
 
     def rows(self, table: str) -> List[Row]:
         """All rows of a table, in the order of their keys' bytes (docs/FORMATS.md, 12)."""
         self._columns(table)
-        return [tuple(map(from_word, line.split(" ")[2:])) for line in self._tell("rows " + quote(table, ""))]
+        return [self._row(table, line.split(" ")[2:]) for line in self._tell("rows " + quote(table, ""))]
 
     def row(self, table: str, /, *key: Value) -> Optional[Row]:
         """The row with this key, or None."""
         self._columns(table, key=key)
         for line in self._tell(" ".join(["row", quote(table, ""), *map(to_word, key)])):
-            return tuple(map(from_word, line.split(" ")[2:]))
+            return self._row(table, line.split(" ")[2:])
         return None
 
     def pending(self) -> List[Change]:
@@ -276,9 +300,10 @@ class Replica:
         if table not in self.columns:
             raise NoTable(f"NoTable: {table}")
         columns = self.columns[table]
-        for values, wanted in (row, len(columns)), (key, sum(columns.values())):
-            if values is not None and len(values) != wanted:
-                raise Width(f"Width: {len(values)} values in place of {wanted}")
+        keys = sum(columns.values())
+        for values, least, most in (row, self._first[table], len(columns)), (key, keys, keys):
+            if values is not None and not least <= len(values) <= most:
+                raise Width(f"Width: {len(values)} values in place of {most}")
         return columns
 
     def _spell(self, verb: str, table: str, values: Sequence[Value], fields: Mapping[str, Value]) -> str:
@@ -290,15 +315,61 @@ class Replica:
                 raise TypeError(f"{table} has no column {column}")
             if columns[column]:
                 raise KeyColumn(f"KeyColumn: {column}")
-        if verb == "update":
+        if verb == "insert":
+            words = self._as_wide(table, words, "null")
+        elif verb == "update":
             key = iter(words)
             words = [next(key) if is_key else to_word(fields[column]) if column in fields else "-" for column, is_key in columns.items()]
+            words = self._as_wide(table, words, "-")
         return " ".join(["edit", verb, quote(table, ""), *words])
 
-    def _edit(self, line: str) -> None:
+    def _as_wide(self, table: str, words: List[str], empty: str) -> List[str]:
+        """As many words as the table has columns: behind the named ones nothing is set."""
+        wanted = max((place for place, word in enumerate(words, 1) if word != empty), default=0)
+        if wanted > self._width[table] and not (self._has_grown(table) and wanted <= self._width[table]):
+            raise Width(f"Width: {table} has no column {list(self.columns[table])[wanted - 1]} yet")
+        width = self._width[table]
+        return words[:width] + [empty] * (width - len(words))
+
+    def _has_grown(self, table: str) -> bool:
+        """Whether a table has more columns than it was known to have. No line tells how many: where a row of nothing but NULL is as wide, it is refused as NullKey."""
+        known = self._width[table]
+        for width in range(known, MOST_COLUMNS + 1):
+            try:
+                self._tell(" ".join(["edit", "insert", quote(table, ""), *["null"] * width]))
+            except Width:
+                continue
+            except NullKey:
+                self._width[table] = width
+                break
+        return self._width[table] > known
+
+    def _edit(self, edits: Sequence[Edit], front: Sequence[str] = ()) -> None:
+        """Makes these edits, with a line before them where they are one commit. Where a table has got more columns meanwhile, they are spelled anew."""
         with self._turn:
             self._made += 1
-            self._tell(line)
+            while True:
+                lines = list(front)
+                for index, edit in enumerate(edits):
+                    try:
+                        lines.append(self._spell(*edit))
+                    except Refused as refused:
+                        refused.index = index if front else None
+                        raise
+                try:
+                    self._tell("\n".join(lines))
+                    return
+                except Width as refused:
+                    if not self._has_grown(edits[refused.index or 0].table):
+                        raise
+
+    def _row(self, table: str, words: Sequence[str]) -> Row:
+        """A row of the reply. A later column that isn't there yet is None."""
+        names, values = len(self.columns[table]), [from_word(word) for word in words]
+        row = Row(values[:names] + [None] * (names - len(values)))
+        if len(values) > names:
+            row.more = tuple(values[names:])
+        return row
 
     def _push(self) -> List[str]:
         """The push under way, else what is pending as the next one, if there is either."""
@@ -313,7 +384,7 @@ class Replica:
         """Tells an answer of the hub. The wish `s` stops before a clash that wasn't shown, and then the answer is told again with the wish for that. Gives how
         many entries were taken, what was told last, and the clash at which it was wished to stop."""
         taken, version, made, wishes = 0, "", 0, ""
-        decided: List[Tuple[Clash, Wish]] = []
+        decided: List[Tuple[List[str], Wish]] = []
         while True:
             with self._turn:
                 if made != self._made:
@@ -332,23 +403,31 @@ class Replica:
             if words[3] != version:
                 version, wishes, decided = words[3], "", []
             clash = self._clash(words[5:])
-            wish = next((wish for shown, wish in decided if shown == clash), None) or Wish(on_conflict(clash))
+            wish = next((wish for shown, wish in decided if shown == words[5:]), None) or Wish(on_conflict(clash))
             if wish is Wish.STOP:
                 return taken, told, clash
             if not (clash.may_keep if wish is Wish.KEEP else clash.may_take):
                 raise ValueError(f"{wish} isn't lawful at {clash}")
-            decided.append((clash, wish))
+            decided.append((words[5:], wish))
             wishes += wish.value
 
-    def _named(self, table: str, words: Sequence[str]) -> Dict[str, Value]:
-        """Values by column, but for those that aren't told."""
-        return {column: from_word(word) for column, word in zip(self.columns[table], words) if word != "-"}
+    def _named(self, table: str, words: Sequence[str], is_row: bool = True) -> Columns:
+        """Values by column, of a row, or of what is told of one."""
+        names = list(self.columns[table])
+        told = [(place, from_word(word)) for place, word in enumerate(words) if word != "-"]
+        named = Columns((names[place], value) for place, value in told if place < len(names))
+        named.more = {place: value for place, value in told if place >= len(names)}
+        if is_row:
+            named.update((name, None) for name in names[len(words):])
+        return named
 
     def _change(self, table: str, words: Sequence[str]) -> Change:
         """`insert FLAG VALUES`, `delete FLAG VALUES`, or `update FLAG OLD > NEW`."""
-        width = len(self.columns[table])
-        old, new = self._named(table, words[2:2 + width]), self._named(table, words[-width:])
-        return Change(table, words[0], None if words[0] == "insert" else old, None if words[0] == "delete" else new)
+        if words[0] == "update":
+            middle = len(words) // 2 + 1
+            return Change(table, "update", self._named(table, words[2:middle], False), self._named(table, words[middle + 1:], False))
+        row = self._named(table, words[2:])
+        return Change(table, words[0], None if words[0] == "insert" else row, None if words[0] == "delete" else row)
 
     def _clash(self, words: Sequence[str]) -> Clash:
         """`KIND T CHANGE row VALUES own CHANGE lawful LETTERS`. A table may have one of these names, and no value is one of them."""

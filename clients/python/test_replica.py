@@ -7,10 +7,13 @@ from pathlib import Path
 import replica
 from replica import BadEntry, Clash, Device, Ended, HubRefused, Mismatch, Place, Real, Refused, Replica, Synced, Wish
 from replica import delete, http_exchange, insert, keep_mine, take_theirs, update
+from widen import widen
 
 SYNC = os.environ.get("SYNC", "sync")
 GATEWAY = Path(__file__).resolve().parents[2] / "hub" / "gateway.py"
 STOCK = {"stock": ["article*", "pieces", "note"]}
+LATER = {"stock": ["article*", "pieces", "note", "shelf+"]}
+WIDE = {"stock": ["article*", "pieces", "note", "shelf"]}
 
 
 class Hub:
@@ -57,6 +60,16 @@ class Case(unittest.TestCase):
         hub = Hub(*words)
         self.addCleanup(hub.close)
         return hub
+
+    def shown(self, till):
+        """All values of each row, but for the NULLs at its end."""
+        rows = []
+        for row in till.rows("stock"):
+            values = list(row + row.more)
+            while values[-1] is None:
+                values.pop()
+            rows.append(values)
+        return rows
 
     def refuses(self, name, call, /, *values, **fields):
         with self.assertRaises(Refused) as told:
@@ -222,7 +235,7 @@ class Hubs(Case):
     def rest(self):
         for till in self.north, self.south, self.north:
             till.sync(self.at_hub)
-        self.assertEqual(sorted(self.north.rows("stock")), sorted(self.south.rows("stock")))
+        self.assertEqual(self.shown(self.north), self.shown(self.south))
         self.assertEqual({self.north.place(), self.south.place()}, {Place(len(self.at_hub.log()), 0, 0)})
         self.assertEqual(len(self.at_hub.log()), len(set(self.at_hub.log())))
 
@@ -420,6 +433,7 @@ class Hubs(Case):
         def exchange(requests):
             with turn:
                 return self.at_hub(requests)
+        widen(exchange, "stock", 5)
         while any(thread.is_alive() for thread in threads):
             for till in self.north, self.south:
                 till.sync(exchange)
@@ -431,7 +445,7 @@ class Hubs(Case):
 
     def test_drawn_work(self):
         draw = random.Random(int(os.environ.get("SEED", "1")))
-        tills = [1, 2]
+        tills, width = [1, 2], 3
         replicas = {1: self.north, 2: self.south}
         def lossy(requests):
             if draw.random() < 0.2:
@@ -445,7 +459,8 @@ class Hubs(Case):
             article, pieces = f"a{draw.randrange(6)}", draw.randrange(100)
             till = replicas[id]
             edit = draw.choice([lambda: till.insert("stock", article, pieces, ""), lambda: till.update("stock", article, pieces=pieces),
-                                lambda: till.update("stock", article, note=str(pieces)), lambda: till.delete("stock", article)])
+                                lambda: till.update("stock", article, note=str(pieces)), lambda: till.delete("stock", article),
+                                lambda: till.update("stock", article, note=None, **{name: pieces for name in till.columns["stock"] if name == "shelf"})])
             try:
                 edit()
             except Refused:
@@ -455,19 +470,158 @@ class Hubs(Case):
                     replicas[id].sync(lossy, lambda clash: draw.choice([keep_mine(clash), take_theirs(clash), Wish.STOP]))
                 except OSError:
                     pass
-            if draw.random() < 0.02:
+            if draw.random() < 0.05:
+                width += 1
+                widen(self.at_hub, "stock", width)
+            if draw.random() < 0.05:
                 replicas[id]._node.kill()
                 self.assertRaises(Ended, replicas[id].place)
-                replicas[id] = self.till(id)
+                replicas[id] = self.till(id, draw.choice([STOCK, LATER]))
         self.north, self.south = replicas[1], replicas[2]
         self.rest()
+        self.assertEqual({len(row + row.more) for row in self.north.rows("stock")}, {width})
+
+
+class Wider(Case):
+    """Two tills and a hub that gives their table a fourth column. The north's program knows the first three."""
+    def setUp(self):
+        super().setUp()
+        self.at_hub = self.hub()
+        self.north, self.south = self.till(1), self.till(2)
+        for article in "nails", "saw":
+            self.north.insert("stock", article, 100, "")
+        self.north.sync(self.at_hub)
+        self.south.sync(self.at_hub)
+
+    def test_who_has_fewer_names_goes_on(self):
+        self.north.update("stock", "nails", pieces=90)
+        self.south.insert("stock", "glue", 4, "")
+        self.south._tell("push")
+        self.south.update("stock", "saw", note="blunt")
+        self.assertEqual(widen(self.at_hub, "stock", 4), 2)
+        self.north.insert("stock", "rope", 1, None)             # before it has heard of the column
+        self.assertEqual(self.north.sync(self.at_hub), Synced(1, 3, None))
+        self.assertEqual(self.south.sync(self.at_hub), Synced(2, 4, None))
+        self.north.sync(self.at_hub)
+        for till in self.north, self.south:
+            rows = till.rows("stock")
+            self.assertEqual(sorted(rows), [("glue", 4, ""), ("nails", 90, ""), ("rope", 1, None), ("saw", 100, "blunt")])
+            self.assertEqual([row.more for row in rows], [(None,)] * 4)
+
+        self.south.close()
+        self.south = self.till(2, WIDE)
+        self.south.update("stock", "nails", shelf=7)
+        self.south.insert("stock", "tape", 8, "", "high")
+        self.south.sync(self.at_hub)
+        self.north.sync(self.at_hub)
+        row = self.north.row("stock", "nails")
+        self.assertEqual((row, row.more, len(row)), (("nails", 90, ""), (7,), 3))
+        for article, pieces, note in self.north.rows("stock"):
+            self.assertIs(type(pieces), int)
+        self.north.update("stock", "nails", pieces=80)
+        self.north.edits([insert("stock", "oil", 2, ""), update("stock", "tape", note="red"), delete("stock", "glue")])
+        shown = {change.operation + str((change.old or change.new)["article"]): change for change in self.north.pending()}
+        self.assertEqual(shown["insertoil"].new, {"article": "oil", "pieces": 2, "note": ""})
+        self.assertEqual((shown["insertoil"].new.more, shown["deleteglue"].old.more, shown["updatenails"].new.more), ({3: None}, {3: None}, {}))
+        for edit in insert("stock", "oil", 2), insert("stock", "oil", 2, "", 1), delete("stock", "nails", 1):
+            refused = self.refuses("Width", self.north.edits, [delete("stock", "saw"), edit])
+            self.assertEqual(refused.index, 1)
+        self.refuses("Exists", self.north.insert, "stock", "oil", 2, "")
+        self.north.sync(self.at_hub)
+        self.south.sync(self.at_hub)
+        self.assertEqual(self.south.row("stock", "nails"), ("nails", 80, "", 7))
+        self.assertEqual((self.south.row("stock", "oil"), self.south.row("stock", "tape")), (("oil", 2, "", None), ("tape", 8, "red", "high")))
+        self.assertEqual(self.shown(self.north), self.shown(self.south))
+
+    def test_a_name_may_come_before_its_column(self):
+        self.north.close()
+        self.north = self.till(1, LATER)
+        self.assertEqual(sorted(self.north.rows("stock")), [("nails", 100, "", None), ("saw", 100, "", None)])
+        self.north.insert("stock", "glue", 4, "")
+        self.north.insert("stock", "rope", 1, "", None)
+        self.north.update("stock", "nails", pieces=90)
+        self.assertIn("no column shelf yet", str(self.refuses("Width", self.north.insert, "stock", "oil", 1, "", 7)))
+        self.refuses("Width", self.north.update, "stock", "nails", shelf=7)
+        self.refuses("Width", self.north.insert, "stock", "oil", 1)
+        self.assertEqual(self.refuses("Width", self.north.edits, [delete("stock", "saw"), update("stock", "nails", pieces=1, shelf=7)]).index, 1)
+        self.assertIn({"article": "glue", "pieces": 4, "note": "", "shelf": None}, [change.new for change in self.north.pending()])
+        self.assertIn({"pieces": 90}, [change.new for change in self.north.pending()])
+        widen(self.at_hub, "stock", 4)
+        self.north.sync(self.at_hub)
+        self.north.update("stock", "nails", shelf=7)
+        self.north.insert("stock", "oil", 1, "", "low")
+        self.north.sync(self.at_hub)
+        self.assertEqual(sorted(self.north.rows("stock"), key=str)[1:3], [("nails", 90, "", 7), ("oil", 1, "", "low")])
+        # A new till begins with the first columns, since the log does; so it has to know which came later.
+        third = self.till(3, LATER)
+        self.assertEqual(third.sync(self.at_hub).version, 4)
+        self.assertEqual(third.rows("stock"), self.north.rows("stock"))
+        self.assertRaises(BadEntry, self.till(4, WIDE).sync, self.at_hub)
+        for tables in STOCK, LATER, WIDE:
+            third.close()
+            third = self.till(3, tables)
+            self.assertEqual(self.shown(third), self.shown(self.north))
+        third.close()
+        self.refuses("Mismatch", self.till, 3, {"stock": ["article*", "pieces", "note", "shelf", "weight"]})
+        self.assertRaises(ValueError, self.till, 5, {"stock": ["article*", "pieces+", "note"]})
+
+    def test_clashes_of_wide_rows(self):
+        widen(self.at_hub, "stock", 4)
+        self.south.sync(self.at_hub)
+        self.south.close()
+        self.south = self.till(2, WIDE)
+        self.south.update("stock", "nails", shelf=7)
+        self.south.update("stock", "saw", pieces=9, shelf=5)
+        self.south.insert("stock", "glue", 4, "", "low")
+        self.south.sync(self.at_hub)
+        self.north.delete("stock", "nails")
+        self.north.update("stock", "saw", pieces=8)
+        self.north.insert("stock", "glue", 5, "")
+        shown = {}
+        def decide(clash):
+            shown[clash.kind] = clash
+            return keep_mine(clash) if clash.kind != "conflict" else take_theirs(clash)
+        self.north.sync(self.at_hub, decide)
+        gone, met, there = shown["notfound"], shown["data"], shown["conflict"]
+        self.assertEqual((gone.theirs.old, gone.theirs.old.more, gone.theirs.new, gone.theirs.new.more), ({"article": "nails"}, {3: None}, {}, {3: 7}))
+        self.assertEqual((gone.mine.old["article"], gone.mine.old.more), ("nails", {3: None}))
+        self.assertEqual((met.theirs.new, met.theirs.new.more, met.mine.new, met.mine.new.more), ({"pieces": 9}, {3: 5}, {"pieces": 8}, {}))
+        self.assertEqual((met.row, met.row.more, met.may_keep), ({"article": "saw", "pieces": 8, "note": ""}, {3: None}, False))
+        self.assertEqual((there.theirs.new, there.theirs.new.more, there.mine.new.more), ({"article": "glue", "pieces": 4, "note": ""}, {3: "low"}, {3: None}))
+        self.south.sync(self.at_hub)
+        self.assertEqual(self.shown(self.north), self.shown(self.south))
+        self.assertEqual(sorted(self.south.rows("stock"), key=str), [("glue", 4, "", "low"), ("saw", 9, "", 5)])
+
+    def test_many_columns_and_several_times(self):
+        for width in 5, 6, 2000:
+            widen(self.at_hub, "stock", width)
+        self.north.sync(self.at_hub)
+        self.north.insert("stock", "glue", 4, "")
+        self.north.update("stock", "nails", pieces=90)
+        self.assertEqual([len(row.more) for row in self.north.rows("stock")], [1997] * 3)
+        self.assertEqual(self.north._width, {"stock": 2000})
+
+    def test_what_a_hub_says_of_wider_tables(self):
+        for table, width in ("stock", 3), ("stock", 2), ("stock", 2001), ("shop", 4):
+            with self.assertRaises(HubRefused) as told:
+                widen(self.at_hub, table, width)
+            self.assertEqual(str(told.exception), "hub refused 46 BadWiden")
+        def overtaken(requests):
+            if self.at_hub.asked[-1:] != [requests] and len(self.at_hub.log()) == 1 and requests[0][18:34] != "0" * 16:
+                self.north.update("stock", "nails", pieces=90)
+                self.north.sync(self.at_hub)
+            return self.at_hub(requests)
+        self.assertEqual(widen(overtaken, "stock", 4), 3)
+        self.assertEqual(widen(self.hub("empty:1"), "empty", 2), 1)
+        for wrong in "", "11", "12", "12" + "0" * 16, "1", "14" + "0" * 24, "13":
+            self.assertRaises(OSError, widen, lambda requests: [wrong], "stock", 5)
 
 
 class OverHttp(Case):
     def test_two_tills_and_a_gateway(self):
         tokens = os.path.join(self.folder, "tokens")
-        north_token, south_token = "the-token-of-the-north", "the-token-of-the-south"
-        Path(tokens).write_text(f"1 {north_token}\n2 {south_token}\n")
+        north_token, south_token, admin_token = "the-token-of-the-north", "the-token-of-the-south", "the-token-of-the-admin"
+        Path(tokens).write_text(f"1 {north_token}\n2 {south_token}\nadmin {admin_token}\n")
         gateway = subprocess.Popen([sys.executable, "-B", str(GATEWAY), "0", tokens, SYNC, "hub", "--file", os.path.join(self.folder, "hub.db"), "stock:100"],
                                    stdout=subprocess.PIPE, stderr=subprocess.DEVNULL, text=True)
         self.addCleanup(gateway.stdout.close)
@@ -484,6 +638,13 @@ class OverHttp(Case):
                 south.sync(http_exchange(url, token))
         with self.assertRaisesRegex(OSError, "404"):
             south.sync(http_exchange(url + "/other", south_token))
+        with self.assertRaisesRegex(OSError, "the gateway says 403: only the administrator"):
+            widen(http_exchange(url, south_token), "stock", 4)
+        self.assertEqual(widen(http_exchange(url, admin_token), "stock", 4), 2)
+        with self.assertRaisesRegex(OSError, "the gateway says 403"):
+            north.sync(http_exchange(url, admin_token))
+        north.sync(http_exchange(url, north_token))
+        self.assertEqual(north.row("stock", "nails").more, (None,))
         gateway.terminate()
         gateway.wait()
         self.assertRaises(OSError, south.sync, http_exchange(url, south_token))
