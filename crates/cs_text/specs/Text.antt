@@ -2,6 +2,7 @@
 use Rattle.std.specs.Prelude.{ℕ, ◌/◌, ◌%◌, ◌==◌, ◌&&◌, nat_le, not, Bool, true, false, if◌then◌else◌, List, [], ◌∷◌, ◌++◌, codes}
 use Rattle.std.specs.List.{flat_map}
 use Rattle.std.specs.Fmt.{digit_glyph, signed_decimal}
+use Rattle.cs_value.specs.declared.catalog.TableDef.{TableDef}
 use Rattle.cs_value.specs.declared.value.Value.{Value}
 use Rattle.cs_value.specs.declared.value.Value.TheVariants.{Null, Int, Text, Blob}
 use Rattle.cs_value.specs.declared.value.Field.{Field}
@@ -89,6 +90,13 @@ line text = text ++ codes "\n"
 -- `table NAME MARKS`
 abbrev pub header_text : List ℕ → List ℕ → List ℕ
 header_text marks name = codes "table " ++ name_text name ++ spaced (marks_text marks)
+
+-- a table, with a digit a column, and a line for each of several
+abbrev pub table_text : TableDef → List ℕ
+table_text table = codes "table " ++ name_text table.name ++ spaced (flat_map bit_text table.key_marks)
+
+abbrev pub tables_text : List TableDef → List ℕ
+tables_text tables = flat_map (λ table. line (table_text table)) tables
 
 abbrev pub changes_text : List Change → List ℕ
 changes_text changes = flat_map (λ change. line (change_text change)) changes

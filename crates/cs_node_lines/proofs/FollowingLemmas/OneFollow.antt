@@ -29,7 +29,7 @@ use Rattle.cs_replica.specs.StepLaws.{AreOfEdits, OneEditedAll}
 use Rattle.cs_replica.specs.declared.told.Told.{Told}
 use Rattle.cs_store.specs.Contents.{Contents}
 use Rattle.cs_store.specs.declared.log.entry.TheConstants.{MAX_CHANGESET}
-use Rattle.cs_text.specs.Text.{changeset_text, line}
+use Rattle.cs_text.specs.Text.{changeset_text, line, tables_text}
 use Rattle.cs_value.specs.Catalog.{AreTables}
 use Rattle.cs_value.specs.declared.catalog.TableDef.{TableDef}
 use Rattle.cs_value.specs.declared.edit.Edit.{Edit}
@@ -199,6 +199,7 @@ module _ (laws : Beneath) (tables : List TableDef) (had has its_had its_has : �
 
   shown_once : (asked : Look) (some other : List ℕ) → Shown before asked some → Shown its asked other → some ≡ other
   shown_once look.Place some other is so = is ∙ (ap (λ (p : Position). line (replica_text p.id p)) (sym same.position) ∙ sym so)
+  shown_once look.Tables some other is so = is ∙ (ap tables_text (sym same.tables) ∙ sym so)
   shown_once (look.Rows name) some other one two =
       rows_once (has_table before.tables name) name some other one (subst (λ (ts : List TableDef). TellsRows (has_table ts name) its.view.tables name other) same.tables two)
   shown_once (look.Row name key) some other is so =

@@ -7,7 +7,7 @@ use Rattle.cs_text.specs.parse.Values.{values_in}
 use Rattle.cs_text.specs.parse.Words.{words_in}
 use Rattle.cs_node_lines.specs.asks.Asked.{alone}
 use Rattle.cs_node_lines.specs.declared.asks.look.Look.{Look}
-use Rattle.cs_node_lines.specs.declared.asks.look.Look.TheVariants.{Pending, Place, Row, Rows}
+use Rattle.cs_node_lines.specs.declared.asks.look.Look.TheVariants.{Pending, Place, Row, Rows, Tables}
 
 -- T, behind `rows`
 abbrev pub rows_in : List (List ℕ) → Option Look
@@ -29,6 +29,7 @@ row_in (name ∷ words) = row_with (text_in name) (values_in words)
 abbrev pub look_by : List ℕ → List (List ℕ) → Option Look
 look_by verb words =
     if bytes_eq verb (codes "place") then alone Place words
+    else if bytes_eq verb (codes "tables") then alone Tables words
     else if bytes_eq verb (codes "rows") then rows_in words
     else if bytes_eq verb (codes "row") then row_in words
     else if bytes_eq verb (codes "pending") then alone Pending words
@@ -38,6 +39,6 @@ abbrev pub words_look : List (List ℕ) → Option Look
 words_look [] = None
 words_look (verb ∷ words) = look_by verb words
 
--- what a line asks to be shown: `place`, `rows T`, `row T KEYVALUES` or `pending`; none where it asks nothing such
+-- what a line asks to be shown: `place`, `tables`, `rows T`, `row T KEYVALUES` or `pending`; none where it asks nothing such
 abbrev pub look_in : List ℕ → Option Look
 look_in line = words_look (words_in line)

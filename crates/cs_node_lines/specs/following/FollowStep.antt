@@ -10,7 +10,7 @@ use Rattle.cs_pending.specs.declared.outgoing.gathering.Outgoing.TheVariants.{Ch
 use Rattle.cs_pending.specs.outgoing.Outgoing.{IsOutgoing}
 use Rattle.cs_pending.specs.rows.Rows.{AreRowsOf}
 use Rattle.cs_replica.specs.Step.{Member}
-use Rattle.cs_text.specs.Text.{changeset_text, line}
+use Rattle.cs_text.specs.Text.{changeset_text, line, tables_text}
 use Rattle.cs_value.specs.Key.{Place}
 use Rattle.cs_value.specs.declared.catalog.TableDef.{TableDef}
 use Rattle.cs_value.specs.declared.value.Value.{Value}
@@ -57,6 +57,7 @@ outgoing_text (Changes changes) = changeset_text (groups_of changes)
 -- one case a line that only looks
 abbrev pub Shown : Member → Look → List ℕ → Type 0
 Shown member look.Place text = text ≡ line (replica_text member.position.id member.position)
+Shown member look.Tables text = text ≡ tables_text member.tables
 Shown member (look.Rows name) text = TellsRows (has_table member.tables name) member.view.tables name text
 Shown member (look.Row name key) text = text ≡ row_told (has_table member.tables name) member.view.tables name (key_bytes key)
 Shown member look.Pending text = (outgoing : Outgoing) × IsOutgoing member.tables member.view.pending outgoing × (text ≡ outgoing_text outgoing)

@@ -13,6 +13,8 @@ use std::alloc::Global;
 pub enum Look {
     /// Where it stands: `place`.
     Place,
+    /// Its tables, as they are now: `tables`.
+    Tables,
     /// The rows of a table: `rows T`.
     Rows(Text),
     /// The row of a table with a key: `row T KEYVALUES`.
@@ -47,6 +49,9 @@ fn read_look_by(alloc: Global, verb: &[u8], words: &mut Words<'_>) -> Result<Opt
 {
     if is_word(verb, b"place") {
         return Ok(alone(Look::Place, words));
+    }
+    if is_word(verb, b"tables") {
+        return Ok(alone(Look::Tables, words));
     }
     if is_word(verb, b"rows") {
         return read_rows(alloc, words);

@@ -13,7 +13,7 @@ ghost use Rattle.cs_normal.specs.Normal.{groups_of};
 ghost use Rattle.cs_normal.specs.keyed.Changes.{key_bytes};
 ghost use Rattle.cs_order.specs.Order.{by_bytes};
 ghost use Rattle.cs_replica.specs.Step.{Member};
-ghost use Rattle.cs_text.specs.Text.{changeset_text};
+ghost use Rattle.cs_text.specs.Text.{changeset_text, tables_text};
 
 use crate::asks::Look;
 use crate::working::{Reply, lines_of, place_of, store_fault_name};
@@ -23,8 +23,8 @@ use cs_pending::outgoing::Outgoing;
 use cs_pending::rows::RowAtKey;
 use cs_replica::Replica;
 use cs_store::{RowStore, StoreFault};
-use cs_text::ChangesetText;
-use cs_value::{Memory, Text, Value};
+use cs_text::{ChangesetText, TablesText};
+use cs_value::{Memory, TableDef, Text, Value};
 use std::alloc::Global;
 
 /// The row behind the bytes of a key, if it is one of the rows.
@@ -84,10 +84,26 @@ fn read_reply(read: Result<String, StoreFault>) -> Reply
     }
 }
 
+/// A line for each table.
+fn tables_of(alloc: Global, tables: &[TableDef]) -> Result<String, Memory>
+    ensures { IfOk result (λ text. string_bytes text ≡ tables_text tables.now) }
+{
+    format!(in alloc; "{}", TablesText(tables))
+}
+
 fn place_line<S: RowStore>(alloc: Global, replica: &Replica<S>) -> Reply
     ensures { (had : ℕ) → (has : ℕ) → (before : Member) → before.position ≡ replica.now.position → LookStep had has before look.Place (reply_text result) before }
 {
     match place_of(alloc, replica) {
+        Ok(text) => Reply::Text(text),
+        Err(_) => Reply::Refused("Memory"),
+    }
+}
+
+fn tables_line<S: RowStore>(alloc: Global, replica: &Replica<S>) -> Reply
+    ensures { (had : ℕ) → (has : ℕ) → (before : Member) → before.tables ≡ replica.now.catalog → LookStep had has before look.Tables (reply_text result) before }
+{
+    match tables_of(alloc, replica.catalog().tables()) {
         Ok(text) => Reply::Text(text),
         Err(_) => Reply::Refused("Memory"),
     }
@@ -153,6 +169,7 @@ pub(crate) fn look_line<S: RowStore>(alloc: Global, replica: &mut Replica<S>, lo
 {
     match look {
         Look::Place => place_line(alloc, replica),
+        Look::Tables => tables_line(alloc, replica),
         Look::Rows(name) => rows_line(alloc, replica, name),
         Look::Row { table, key } => row_line(alloc, replica, table, key.as_slice()),
         Look::Pending => pending_line(alloc, replica),
