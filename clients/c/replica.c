@@ -14,7 +14,7 @@
 
 extern char **environ;
 
-enum { AT_ONCE = 1000 /* entries that one catch asks for */, PIECE = 16384, PATIENCE = 90 /* seconds */, MOST_COLUMNS = 2000 /* of a table */ };
+enum { AT_ONCE = 1000 /* entries that one catch asks for */, PIECE = 16384, PATIENCE = 90 /* seconds */ };
 
 /* ---- texts that grow. Once memory was wanting one is short, until it begins anew */
 
@@ -273,21 +273,19 @@ static void put_edit(struct replica *replica, const struct replica_edit *edit) {
     put_words(&replica->asked, "\n");
 }
 
-/* Whether a table has more columns than it was known to have. No line tells how many: where a row of nothing but NULL is as wide, it is refused as `NullKey`. */
+/* Asks how many columns the tables have by now, in their order, and whether this one has more than it was known to have. */
 static const char *grow(struct replica *replica, struct table *table, int *has_grown) {
-    *has_grown = 0;
-    for (size_t width = table->width; width <= MOST_COLUMNS; width++) {
-        begin(&replica->asked, "");
-        put_front(&replica->asked, verbs[REPLICA_INSERT], table->name, NULL, 0);
-        for (size_t at = 0; at < width; at++) put_words(&replica->asked, " null");
-        put_words(&replica->asked, "\n");
-        const char *refused = ask(replica);
-        if (refused && !strcmp(refused, "NullKey")) {
-            *has_grown = width > table->width, table->width = width;
-            return NULL;
-        }
-        if (!refused || strcmp(refused, "Width")) return refused ? refused : "unread";
+    size_t known = table->width;
+    const char *refused = ask_line(replica, "tables\n");
+    if (refused) return refused;
+    char *line = replica->reply.bytes;
+    for (size_t at = 0; at < replica->count && *line != '\n'; at++, line++) {
+        char *end = line + strcspn(line, "\n");
+        for (line = end; line[-1] != ' '; line--) {}
+        replica->tables[at].width = (size_t)(end - line);
+        line = end;
     }
+    *has_grown = table->width > known;
     return NULL;
 }
 

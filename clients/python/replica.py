@@ -28,7 +28,6 @@ Value = Union[None, int, str, bytes]
 Exchange = Callable[[List[str]], List[str]]     # requests to the hub in hex, and its answers in the same order
 
 AT_ONCE = 1000          # entries that one catch asks for
-MOST_COLUMNS = 2000     # of a table
 HEX = re.compile("(?:[0-9A-Fa-f]{2})+")
 CODES = {1: "Memory", 30: "UnknownTable", 31: "Shape", 40: "Ahead", 41: "Conflict", 43: "Full", 44: "Device", 46: "BadWiden"}
 
@@ -332,16 +331,11 @@ class Replica:
         return words[:width] + [empty] * (width - len(words))
 
     def _has_grown(self, table: str) -> bool:
-        """Whether a table has more columns than it was known to have. No line tells how many: where a row of nothing but NULL is as wide, it is refused as NullKey."""
+        """Whether a table has more columns than it was known to have."""
         known = self._width[table]
-        for width in range(known, MOST_COLUMNS + 1):
-            try:
-                self._tell(" ".join(["edit", "insert", quote(table, ""), *["null"] * width]))
-            except Width:
-                continue
-            except NullKey:
-                self._width[table] = width
-                break
+        for line in self._tell("tables"):
+            _, name, marks = line.split(" ")
+            self._width[unquote(name)] = len(marks)
         return self._width[table] > known
 
     def _edit(self, edits: Sequence[Edit], front: Sequence[str] = ()) -> None:
