@@ -725,6 +725,7 @@ asks() {
 # The lines that look, over no row and over some, and what is pending, also behind a push; tables that aren't there, and a key of no row, of another width and of NULL.
 begins
 asks place 'replica 7 version 0 pending 0 flight 0'
+asks tables 'table t1 10' 'table t2 1000'
 asks 'rows t1'
 asks 'row t1 1'
 asks pending
@@ -757,6 +758,7 @@ done << 'END'
 no such line
 
 place 1
+tables t1
 rows
 rows t1 1
 rows %41%
@@ -823,7 +825,7 @@ asks dump 'replica 7 version 0 pending 2 flight 0' 'row t1 1 t=v1' 'row t2 1 nul
 follows "$input" "$output"
 
 # A node without `--follow` reads none of the lines that look, and no line behind which edits come.
-for line in place 'rows t1' 'row t1 1' pending 'edits 0' 'edits 1'; do
+for line in place tables 'rows t1' 'row t1 1' pending 'edits 0' 'edits 1'; do
     begins
     expect 1 "$line\n" '' 'sync: line 1\n' node "$file" 7 t1:10
 done
@@ -886,6 +888,7 @@ W4=540401000000743100
 asks 'edit insert t1 1 t=v1' ok
 asks push "$(push 1 0 $H1$I$K1$V1)"
 asks "answer $(from 0 1)$(wider 1 3 $T1) s" 'taken 1 version 1'
+asks tables 'table t1 100' 'table t2 1000'
 asks pending 'table t1 100' 'insert 0 1 t=v1 null'
 asks 'rows t1' 'row t1 1 t=v1 null'
 asks 'row t1 1' 'row t1 1 t=v1 null'
