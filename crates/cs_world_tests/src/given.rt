@@ -10,7 +10,7 @@ use cs_hub::log_opening::open_log;
 use cs_hub::log_store::Catalogs;
 use cs_map_store::MapStore;
 use cs_opening::OpenFault;
-use cs_store::log::{LogEntry, MAX_ENTRIES, read_body};
+use cs_store::log::{LogEntry, read_body};
 use cs_store::{RowStore, StoreFault, Trip};
 use cs_store_cases::catalog;
 use cs_value::Catalog;
@@ -112,9 +112,6 @@ pub(crate) fn appends(
     catalogs: &mut Catalogs,
     push: Push,
 ) -> Option<Told> {
-    if catalogs.newest() >= MAX_ENTRIES {
-        return None;
-    }
     let entry = entry_of(alloc, catalogs.present(), push)?;
     Some(match append(alloc, store, catalogs, &entry) {
         Ok(()) => Told::Done,

@@ -1,13 +1,12 @@
 //! An entry appended to the log of a hub's store.
 
-ghost use Rattle.std.specs.Prelude.{◌≡◌, ◌+◌, ◌<◌, ◌∷◌, ◌++◌, [], List, IfOk, IfErr, OnErr, OnOk};
+ghost use Rattle.std.specs.Prelude.{◌≡◌, ◌+◌, ◌∷◌, ◌++◌, [], List, IfOk, IfErr, OnErr, OnOk};
 ghost use Rattle.std.specs.Fn.{CalledAt};
 ghost use Rattle.cs_normal.specs.Normal.{FitsCatalog};
 ghost use Rattle.cs_normal.specs.State.{State};
 ghost use Rattle.cs_store.specs.log.Entry.{changes_of_body};
 ghost use Rattle.cs_store.specs.log.Stored.{FitsBody, IsEntryOf};
 ghost use Rattle.cs_store.specs.declared.log.entry.LogEntry.{LogEntry as Entry};
-ghost use Rattle.cs_store.specs.declared.log.entry.TheConstants.{MAX_ENTRIES};
 ghost use Rattle.cs_conflict.specs.declared.conflict.Resolution.TheVariants.{Abort};
 ghost use Rattle.cs_apply.specs.Laws.{AlwaysAborts};
 ghost use Rattle.cs_store.specs.States.{Holds};
@@ -26,7 +25,7 @@ use cs_conflict::{Conflict, Resolution};
 use cs_normal::Normal;
 use cs_padding::widen_rows;
 use cs_store::edits::PlaceEdits;
-use cs_store::log::laws::{catalog_by_widens, most_entries, widens_grow};
+use cs_store::log::laws::{catalog_by_widens, widens_grow};
 use cs_store::log::{Body, LogEntry, put_body};
 use cs_store::{Batch, RowStore, StoreFault, StoredEntry};
 use cs_value::{Catalog, Memory};
@@ -173,7 +172,7 @@ pub fn try_entry<S: RowStore>(
 ///
 /// # Errors
 ///
-/// `Memory` and `Device`. Nothing has changed then.
+/// `Memory`, also where no version is left for the entry, and `Device`. Nothing has changed then.
 pub fn append_tried<S: RowStore>(
     alloc: Global,
     store: &mut S,
@@ -181,7 +180,6 @@ pub fn append_tried<S: RowStore>(
     entry: &LogEntry,
     batch: &Batch,
 ) -> Result<(), StoreFault>
-    requires room { catalogs.old.newest < MAX_ENTRIES }
     requires tried { S.honest store.old → AppendsEntry catalogs.old entry.now (S.contents store.old) batch.now }
 
     // The entry is appended, in one commit; at `Err` nothing has changed.
@@ -197,7 +195,9 @@ pub fn append_tried<S: RowStore>(
 {
     catalog_by_widens();
     widens_grow();
-    most_entries();
+    if catalogs.newest == u32::MAX {
+        return Err(StoreFault::Memory);
+    }
     catalogs.later.reserve(1)?;
     let later = later_of(alloc, catalogs.behind(), catalogs.newest, &entry.body)?;
     match store.commit(batch) {
@@ -216,14 +216,14 @@ pub fn append_tried<S: RowStore>(
 ///
 /// # Errors
 ///
-/// `Conflict` where a change isn't defined on the rows, with the first that isn't; `Memory` and `Device`. Nothing has changed then.
+/// `Conflict` where a change isn't defined on the rows, with the first that isn't; `Memory` and `Device`, as `append_tried`. Nothing has
+/// changed then.
 pub fn append<S: RowStore>(
     alloc: Global,
     store: &mut S,
     catalogs: &mut Catalogs,
     entry: &LogEntry,
 ) -> Result<(), AppendFault>
-    requires room { catalogs.old.newest < MAX_ENTRIES }
     requires fits { IsEntryOf (newest_tables catalogs.old) entry.now }
 
     // The entry is appended, in one commit; at `Err` nothing has changed.
