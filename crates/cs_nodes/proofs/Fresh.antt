@@ -1,6 +1,6 @@
 -- A node over a store that held nothing.
-use Rattle.std.proofs.Common.{◌≡◌, ℕ, List, Option, Some, None, Ok, Err, refl, sym, ap, subst, ◌∙◌, inl, inr}
-use Rattle.std.specs.Prelude.{◌⊎◌}
+use Rattle.std.proofs.Common.{◌≡◌, ℕ, Bool, true, false, List, Option, Some, None, Ok, Err, refl, sym, ap, subst, ◌∙◌, inl, inr}
+use Rattle.std.specs.Prelude.{◌⊎◌, IsTrue}
 use Rattle.std.specs.FinMap.{get-empty}
 use Rattle.cs_order.specs.Order.{by_bytes}
 use Rattle.cs_value.specs.Catalog.{AreTables}
@@ -59,6 +59,10 @@ bare_fault handed id old Memory bare told = inl refl
 bare_fault handed id old Damaged bare told = store_fault told.0 id old Damaged bare told.2
 bare_fault handed id old Device bare told = inr refl
 bare_fault handed id old Mismatch bare told = store_fault told.0 id old Mismatch bare told.2
+
+pub is_false : (b : Bool) → b ≡ false → IsTrue b → ⊥
+is_false true is told = absurd (let no = is in cc)
+is_false false is told = cc
 
 module _ {S : Type 0} (g : Ghosts S) (handed tables : List TableDef) (id : ℕ) (old new last : S) (same : last ≡ new) where
   -- what is opened over nothing is at version 0 and has the handed tables, where the store is honest

@@ -6,6 +6,26 @@ use cs_replica::Replica;
 use cs_store::RowStore;
 use cs_value::{Catalog, TableDef};
 
+fn same_marks(left: &[bool], right: &[bool]) -> bool
+    ensures { IsTrue result ↔ (left.now ≡ right.now) }
+{
+    left == right
+}
+
+/// Whether two tables have one name and the same columns.
+fn same_parts(left: &TableDef, right: &TableDef) -> bool
+    ensures { IsTrue result ↔ ((left.now.name ≡ right.now.name) × (left.now.key_marks ≡ right.now.key_marks)) }
+{
+    left.name.as_str() == right.name.as_str()
+        && same_marks(left.key_marks.as_slice(), right.key_marks.as_slice())
+}
+
+fn same_table(left: &TableDef, right: &TableDef) -> bool
+    ensures { IsTrue result ↔ (left.now ≡ right.now) }
+{
+    same_parts(left, right)
+}
+
 /// Whether two lists of tables are the same.
 fn same_tables(left: &[TableDef], right: &[TableDef]) -> bool
     ensures { IsTrue result ↔ (left.now ≡ right.now) }
@@ -16,9 +36,7 @@ fn same_tables(left: &[TableDef], right: &[TableDef]) -> bool
         match (left.split_first(), right.split_first()) {
             (None, None) => return true,
             (Some((x, xs)), Some((y, ys))) => {
-                if x.name.as_str() != y.name.as_str()
-                    || x.key_marks.as_slice() != y.key_marks.as_slice()
-                {
+                if !same_table(x, y) {
                     return false;
                 }
                 left = xs;

@@ -28,7 +28,7 @@ module _ (law : WidenedAreTables) {P : Type 0} (picks : P → Clash → Wish →
   body_tables : (tables : List TableDef) (flight : Option (List TableChanges)) (body : Body) (before after : View) (p q : P) → AreTables tables
       → IsPulledBody picks tables flight body before after p q → AreTables (catalog_after tables body)
   body_tables tables flight (Changes changes) before after p q are pulled = are
-  body_tables tables flight (Widen name width) before after p q are (widened, same) = law tables name width are widened.may.1
+  body_tables tables flight (Widen name width) before after p q are (widened, same) = law tables name width are widened.may
 
   entry_tables : (tables : List TableDef) (position : Position) (entry : LogEntry) (before after : View) (p q : P) → AreTables tables
       → PullsOne picks tables position entry before p after q → AreTables (catalog_after tables entry.body)

@@ -7,4 +7,4 @@ pub returns : goal.returns
 returns g c =
     let new = c.in-Ok.ensures.fresh tt in
     ended c.args.catalog.now c.args.spine.now c.args.job.id c.args.job.plan (record { node = c.run_plan.new.node; steps = c.in_ok-steps.steps }) c.in-Ok.node
-    (c.in-Ok.ensures.catalog tt) c.in-Ok.ensures.pass.0 c.in-Ok.ensures.pass.1 new.0 new.1 (c.in-Ok.ensures.opens.as_read tt tt ∙ ap misreads_of c.new.ensures) c.in_ok-steps.ensures
+    c.in-Ok.ensures.catalog c.in-Ok.ensures.pass.0 c.in-Ok.ensures.pass.1 new.0 new.1 (c.in-Ok.ensures.opens.as_read tt tt ∙ ap misreads_of c.new.ensures) c.in_ok-steps.ensures
