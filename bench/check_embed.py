@@ -1,6 +1,6 @@
 #!/usr/bin/env python3
 """Checks the library cs_embed as a program in Python meets it, by ctypes: two tills and a hub in one process, over files that it keeps whole. One conflict is answered
-by keeping the own row, one by taking the other's. What the library hands over is opened by SQLite, which also makes the damaged and foreign files that are to be
+by keeping the own row, one by taking the other's. The table gets a column. What the library hands over is opened by SQLite, which also makes the damaged and foreign files that are to be
 refused by name. Where the program `sync` is given, it goes on with these files, and the library with what it leaves.
 
 Usage: check_embed.py LIBRARY FOLDER [SYNC]       LIBRARY is libcs_embed.so, FOLDER one to write into
@@ -181,6 +181,29 @@ def beside(program, north, south, hub):
     owe("the rows", run(["node", south.path, "2", "stock:100"], ["dump"])[1:], ["row stock t=nails 90 t="])
 
 
+def column(north, south, hub, version):
+    """The table gets a column: the hub is asked twice for one, a till takes it with an edit of before, changes it and pushes, and the other catches up. Files are opened
+    by the words of before, a till's by the wider ones too, and by no others."""
+    owe("an edit before the column", north.ask("edit insert stock t=tape 7 t="), ["ok"])
+    request, given = "04%016x%016x000000040000000573746f636b" % (1, version), "11ffffffff%016x%016x" % (1, version + 1)
+    owe("a column, asked for twice", hub.ask(request, request), [given, given])
+    talk(north, hub, "pull 10", "s", [f"taken 1 version {version + 1}"])
+    owe("edits of the column", north.ask("edit update stock t=tape 8 -", "edit update stock t=tape - - 5"), ["refused Width", "ok"])
+    talk(north, hub, "push", "-", [f"accepted {version + 2}"])
+    for behind in 1, 2:
+        talk(south, hub, "catch 10", "s", [f"taken 1 version {version + behind}"])
+    glue, nails = ROWS
+    rows = [glue + " null"] * (version == 3) + ["row stock t=tape 7 t= 5", nails + " null"]
+    for till in north, south:
+        dump = [f"replica {till.id} version {version + 2} pending 0 flight 0", *rows]
+        for tables in STOCK, b"T\4\1\0\0\0stock\0":
+            owe("a dump behind the column", call(till.id, till.bytes(), b"dump\n", tables)[0], dump)
+        for tables in b"T\5\1\0\0\0\0stock\0", b"T\3\1\0\1stock\0", b"T\4\1\0\0\0other\0":
+            refused("other tables behind the column", "Mismatch", till.id, till.bytes(), b"dump\n", tables=tables)
+    refused("a hub by the wider tables", "Mismatch", HUB, hub.bytes(), b"", tables=b"T\4\1\0\0\0stock\0")
+    owe("a column that isn't wider", hub.ask("04%016x%016x000000040000000573746f636b" % (2, version + 2)), ["132e"])
+
+
 looked = 0
 library = load(os.path.abspath(sys.argv[1]))
 folder = sys.argv[2]
@@ -194,4 +217,5 @@ opens(tills[2], {"rows": 2, "log": 3, "pending": 0})
 files(tills[0], tills[2])
 if len(sys.argv) > 3:
     beside(sys.argv[3], *tills)
+column(*tills, 4 if len(sys.argv) > 3 else 3)
 print(f"cs_embed from Python: {looked} answers as they are owed{', and the program beside it' if len(sys.argv) > 3 else ''}")
