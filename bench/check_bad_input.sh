@@ -1,8 +1,8 @@
 #!/usr/bin/env bash
-# Gives the built program bad input: every front of worked changesets and rebase blobs, and each of their bytes changed. A
-# front is accepted where it is whole itself, and else refused as Truncated, with its length. Whatever is refused is refused by
-# name, in one line, with nothing written and status 1; whatever is accepted is one line. Beside that a blob of another table,
-# of another shape, with a key twice, and local changesets with a fault; and requests and entries that give a table columns, each byte changed.
+# Gives the built program bad input: every front of worked changesets and rebase blobs, and each of their bytes changed. A front is accepted
+# where it is whole itself, and else refused as Truncated, with its length. Whatever is refused is refused by name, in one line, with
+# nothing written and status 1; whatever is accepted is one line. Beside that a blob of another table, of another shape, with a key twice,
+# and local changesets with a fault; and requests and entries that give a table columns, each byte changed.
 # Usage: bench/check_bad_input.sh PROGRAM
 set -u
 program="${1:?usage: bench/check_bad_input.sh PROGRAM}"
@@ -111,7 +111,8 @@ refused NullKey "${h1}12000503027631" "$blob"
 refused Shape "${local}540101743100" "$blob"
 refused BadHex "${local}0" "$blob"
 
-# What is asked of a hub, and told to a replica, of a table's columns: each byte of both changed. One line comes back, and the replica's file opens again.
+# What is asked of a hub, and told to a replica, of a table's columns: each byte of both changed. One line comes back, and the replica's
+# file opens again.
 line_of() {
     [ "$status" -eq 0 ] && [ -z "$told" ] && [[ "$written" =~ $2 ]] || tell "$1" "ended with $status, printed '$written', told '$told'"
 }

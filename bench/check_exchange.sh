@@ -1,7 +1,8 @@
 #!/bin/sh
-# Runs the built program `sync exchange` on what a person types: a hub's file and replicas' files, with edits, clashes that stop, are kept and are
-# taken, pushes under way and lost answers, a hub put back to an old copy, more entries than are asked for at once, a table that gets a column, files that are another's or
-# aren't opened, a full device, and flags. Each run's status, output and errors are compared with what they have to be, and in the end the rows.
+# Runs the built program `sync exchange` on what a person types: a hub's file and replicas' files, with edits, clashes that stop, are kept
+# and are taken, pushes under way and lost answers, a hub put back to an old copy, more entries than are asked for at once, a table that
+# gets a column, files that are another's or aren't opened, a full device, and flags. Each run's status, output and errors are compared with
+# what they have to be, and in the end the rows.
 # Usage: bench/check_exchange.sh PROGRAM
 set -u
 program="$(readlink -f "${1:?usage: bench/check_exchange.sh PROGRAM}")"
@@ -103,8 +104,9 @@ runs=$((runs + 1))
 meets 2 '' "$(place 2 9 0 0)"
 meets 1 --keep "taken 1 version 9\\n$(place 1 9 0 0)"
 
-# A table gets a column while two replicas have edits of the old ones. They come to it by themselves, ask nobody at it, and push with it; a new replica is told what
-# stands before it together, it alone, and what stands behind it together. A second request is one entry, and the words of the hub's file stay those it was made by.
+# A table gets a column while two replicas have edits of the old ones. They come to it by themselves, ask nobody at it, and push with it; a
+# new replica is told what stands before it together, it alone, and what stands behind it together. A second request is one entry, and the
+# words of the hub's file stay those it was made by.
 edits 1 'edit update t1 1 t=z' 'edit insert t1 9 null'
 edits 2 'edit update t1 1 t=w' 'edit delete t1 2'
 behind='row t1 5 null null\nrow t1 6 null null\nrow t1 7 null null\nrow t1 8 null null\n'

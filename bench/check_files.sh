@@ -1,9 +1,9 @@
 #!/usr/bin/env bash
 # Runs the built program `sync` on files: `node FILE ID TABLE..` and `hub --file FILE TABLE..`. What they leave is opened in the `sqlite3`
-# shell, where that can be had, and compared there; a second run goes on where the first ended, also where a table got columns. Then files that are bad or aren't ours: an
-# empty file, a text, a database of others, fronts of a good file, one with a byte changed at each of 400 drawn places, a directory, a file
-# that can't be read, a device that is full. Each is refused by name, in one line, with nothing printed and every byte of it as it was; or opened as what
-# it holds. No run crashes or takes longer than its time.
+# shell, where that can be had, and compared there; a second run goes on where the first ended, also where a table got columns. Then files
+# that are bad or aren't ours: an empty file, a text, a database of others, fronts of a good file, one with a byte changed at each of 400
+# drawn places, a directory, a file that can't be read, a device that is full. Each is refused by name, in one line, with nothing printed
+# and every byte of it as it was; or opened as what it holds. No run crashes or takes longer than its time.
 # Usage: bench/check_files.sh PROGRAM
 set -u
 bench="$(cd "$(dirname "$0")" && pwd)"
@@ -49,13 +49,14 @@ refuses() {
         || tell "$name" "ended with $status, printed '$written', told '$told'"
 }
 
-# What a file holds, as one line. A refused run may leave a log beside it (`-wal`, empty or of some bytes without a commit): the file is as it was.
+# What a file holds, as one line. A refused run may leave a log beside it (`-wal`, empty or of some bytes without a commit): the file is as
+# it was.
 sum_of() {
     [ -f "$1" ] && cksum < "$1" || echo none
 }
 
-# looks NAME FILE WORD..: on a file that is none of ours, or was damaged, either is refused by name, and then the file is as it was; or it is
-# opened, and a second run shows the same.
+# looks NAME FILE WORD..: on a file that is none of ours, or was damaged, either is refused by name, and then the file is as it was; or it
+# is opened, and a second run shows the same.
 looks() {
     local name="$1" file="$2" before first
     shift 2
@@ -373,7 +374,8 @@ holds() {
 }
 
 if [ -n "$shell" ]; then
-    # The database of nobody, a store from before pending changes had a table, and a store. An entry's origin and number are the last there can be.
+    # The database of nobody, a store from before pending changes had a table, and a store. An entry's origin and number are the last there
+    # can be.
     opens 'no table' $none 'rows meta log pending' 'VACUUM'
     opens 'three tables' $one 'rows meta log pending' "$three $value $row $entry"
     opens 'four tables' $one 'rows meta log pending' "$four $value $row $entry"
@@ -402,7 +404,8 @@ if [ -n "$shell" ]; then
     refuses 'a new hub of another table' 'sync: Mismatch' "$pull\n" hub --file "$found" t2:10
     selects 'a new hub, at last' "$found" '0|0|0|catalog|54020100743100' "$laid_out"
 
-    # Values: an id, and bytes that are none; without tables it can't be read whose it is; other tables, and bytes that are none; values of a replica.
+    # Values: an id, and bytes that are none; without tables it can't be read whose it is; other tables, and bytes that are none; values of
+    # a replica.
     holds 'an id' Mismatch "INSERT INTO meta VALUES ('id', x'00000007')"
     finds 'an id alone' Damaged "$four INSERT INTO meta VALUES ('id', x'00000007')"
     holds 'no id' Damaged "INSERT INTO meta VALUES ('id', x'07')"
@@ -414,8 +417,8 @@ if [ -n "$shell" ]; then
     holds 'a push under way' Damaged "INSERT INTO meta VALUES ('flight', x'')"
     holds 'pending changes' Damaged "INSERT INTO meta VALUES ('pending', x'')"
 
-    # Entries: of no kind, of another kind, without a changeset, and of another table. Rows: at another key than their own, and of no table. A
-    # pending change, and one of no table.
+    # Entries: of no kind, of another kind, without a changeset, and of another table. Rows: at another key than their own, and of no table.
+    # A pending change, and one of no table.
     holds 'an entry of no kind' Damaged "INSERT INTO log VALUES (0, 7, 1, x'')"
     holds 'an entry of another kind' Damaged "INSERT INTO log VALUES (0, 7, 1, x'01')"
     holds 'an entry without a changeset' Damaged "INSERT INTO log VALUES (0, 7, 1, x'0050')"
@@ -426,7 +429,8 @@ if [ -n "$shell" ]; then
     holds 'a pending change' Damaged "INSERT INTO pending VALUES (0, x'$key1', x'1200${key1}03027631')"
     holds 'a pending change of no table' Damaged "INSERT INTO pending VALUES (1, x'$key1', x'1200${key1}03027631')"
 
-    # Entries that give a table columns, and the rows that these make: with others before and behind, of any origin, alone, and two of one table.
+    # Entries that give a table columns, and the rows that these make: with others before and behind, of any origin, alone, and two of one
+    # table.
     columns() { printf '%s' "INSERT INTO log VALUES ($1, 4294967295, $2, x'01$3');"; }
     told_columns() { printf '01ffffffff%016x%08x%s' "$1" $((${#2} / 2)) "$2"; }
     wide_row="INSERT INTO rows VALUES (0, x'$key1', x'${key1}0302763105');"
@@ -439,7 +443,8 @@ if [ -n "$shell" ]; then
     opens 'columns twice' "$(answer_of 2)$(told_columns 5 000000037431)$(told_columns 5 000007d07431)" 'rows meta log pending' \
         "$four $value $(columns 0 5 000000037431) $(columns 1 5 000007d07431)"
 
-    # Rows that the log doesn't make: without the column, with one more, and with it where no entry gave it. Words of the columns that it got.
+    # Rows that the log doesn't make: without the column, with one more, and with it where no entry gave it. Words of the columns that it
+    # got.
     finds 'a column that its row has not' Damaged "$four $value $entry $(columns 1 1 000000037431) $row"
     finds 'a column less than its row has' Damaged "$four $value $entry $(columns 1 1 000000037431) INSERT INTO rows VALUES (0, x'$key1', x'${key1}030276310505');"
     finds 'a column that no entry gave' Damaged "$four $value $entry $wide_row"

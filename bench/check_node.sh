@@ -1,10 +1,10 @@
 #!/usr/bin/env bash
 # Runs the built program `sync` as a replica on a file, `node FILE ID TABLE..`, each case on a file of its own, and compares what is printed
-# with what it has to be: edits, and what is pending then; another's entries over own edits, one by one and as one changeset, with a push under
-# way and without; entries that give a table more columns, and the tables by which such a file is opened; answers of the hub; entries that aren't taken; lines that are refused or can't be read; and files whose values were changed by the `sqlite3` shell,
-# where that can be had.
-# The same of a replica that answers each line as it comes, `node --follow FILE ID TABLE..`: its lines, clashes that are seen before they are decided, and pipes on
-# which it has to answer each line before the next one is written.
+# with what it has to be: edits, and what is pending then; another's entries over own edits, one by one and as one changeset, with a push
+# under way and without; entries that give a table more columns, and the tables by which such a file is opened; answers of the hub; entries
+# that aren't taken; lines that are refused or can't be read; and files whose values were changed by the `sqlite3` shell, where that can be
+# had. The same of a replica that answers each line as it comes, `node --follow FILE ID TABLE..`: its lines, clashes that are seen before
+# they are decided, and pipes on which it has to answer each line before the next one is written.
 # Usage: bench/check_node.sh PROGRAM
 set -u
 bench="$(cd "$(dirname "$0")" && pwd)"
@@ -38,7 +38,8 @@ entry() {
     printf '00%08x%016x%08x%s' "$1" "$2" "$((${#3} / 2))" "$3"
 }
 
-# wider NUMBER WIDTH TABLE: an entry that gives a table, its name in hex, so many columns. wider_by ORIGIN NUMBER WIDTH TABLE: the same of another origin.
+# wider NUMBER WIDTH TABLE: an entry that gives a table, its name in hex, so many columns. wider_by ORIGIN NUMBER WIDTH TABLE: the same of
+# another origin.
 wider() {
     wider_by 4294967295 "$@"
 }
@@ -266,8 +267,8 @@ $H1$I$K1$V1||||$(from 0 2)$(entry 9 1 50)$(entry 9 1 $H1$I$K2$V2)||taken 1 versi
 |insert t1 1 t=v1|$H1$I$K1$V1||$(from 0 2)$(entry 7 1 $H1$I$K1$V1)$(entry 9 1 $H1$I$K2$V2)||taken 2 version 2|version 2 pending 0 flight 0|t1 1 t=v1;t1 2 t=v2|
 END
 
-# Entries that aren't defined on the log's rows, whatever the own rows are: the DELETE and the UPDATE of a row that is the own one alone; an INSERT
-# of a row that is there, behind one that clashes; an UPDATE and a DELETE of another row than stands there. Nobody is asked.
+# Entries that aren't defined on the log's rows, whatever the own rows are: the DELETE and the UPDATE of a row that is the own one alone; an
+# INSERT of a row that is there, behind one that clashes; an UPDATE and a DELETE of another row than stands there. Nobody is asked.
 leave << END
 |||insert t1 1 t=v1|$(others 0 $H1$D$K1$V1)||fault BadEntry after 0|version 0 pending 1 flight 0|t1 1 t=v1|$H1$I$K1$V1
 |||insert t1 1 t=v1|$(others 0 $H1$U$K1$V1$N$V2)||fault BadEntry after 0|version 0 pending 1 flight 0|t1 1 t=v1|$H1$I$K1$V1
@@ -307,8 +308,8 @@ $H1$I$K1$V1||||$(merged 0 2 $H1$I$K2$V2)||ignored|version 1 pending 0 flight 0|t
 |insert t1 1 t=v1|$H1$I$K1$V1||$(merged_for 8 0 2 $H1$I$K2$V2)||ignored|version 0 pending 0 flight 1|t1 1 t=v1|
 END
 
-# What can't be taken: entries that end before they begin; bytes that are no changeset; a table that isn't there; a NULL as the key; and what isn't
-# defined on the log's rows, whatever the own rows are.
+# What can't be taken: entries that end before they begin; bytes that are no changeset; a table that isn't there; a NULL as the key; and
+# what isn't defined on the log's rows, whatever the own rows are.
 leave << END
 $H1$I$K1$V1||||$(merged 1 0 '')||fault BadEntry after 0|version 1 pending 0 flight 0|t1 1 t=v1|
 ||||$(merged 0 2 50)||fault BadEntry after 0|version 0 pending 0 flight 0||
@@ -318,8 +319,8 @@ $H1$I$K1$V1||||$(merged 1 0 '')||fault BadEntry after 0|version 1 pending 0 flig
 $H1$I$K2$V2|||insert t1 1 t=v1|$(merged 1 3 $H1$I$K1$V2$I$K2$V2)||fault BadEntry after 0|version 1 pending 1 flight 0|t1 1 t=v1;t1 2 t=v2|$H1$I$K1$V1
 END
 
-# With a push under way, behind which an edit was made: it is pending again, and the next push carries both; a stop leaves all as it was. Where they do
-# what the push does, they are merged like any others: an own entry is told by itself.
+# With a push under way, behind which an edit was made: it is pending again, and the next push carries both; a stop leaves all as it was.
+# Where they do what the push does, they are merged like any others: an own entry is told by itself.
 leave << END
 |insert t1 1 t=v1|$H1$I$K1$V1|update t1 1 t=v9|$(merged 0 2 $H1$I$K2$V2)||taken 2 version 2|version 2 pending 1 flight 0|t1 1 t=v9;t1 2 t=v2|$H1$I$K1$V9
 |insert t1 1 t=v1|$H1$I$K1$V1|insert t1 3 t=v9|$(merged 0 2 $H1$I$K1$V2)|k|taken 2 version 2|version 2 pending 2 flight 0|t1 1 t=v1;t1 3 t=v9|$H1$U$K1$V2$N$V1$I$K3$V9
@@ -360,8 +361,8 @@ $H1$I$K1$V1|||update t1 1 t=v2|$(from 1 1)$(wider 1 3 $T1)||taken 1 version 2|ve
 $H1$I$K1$V1|||delete t1 1|$(from 1 1)$(wider 1 3 $T1)||taken 1 version 2|version 2 pending 1 flight 0||$W1$D$K1${V1}05
 END
 
-# Under way: an INSERT, with an UPDATE and another INSERT behind it, and taken back; a DELETE, and with an INSERT behind it; an UPDATE, and taken back; and
-# what is of another table.
+# Under way: an INSERT, with an UPDATE and another INSERT behind it, and taken back; a DELETE, and with an INSERT behind it; an UPDATE, and
+# taken back; and what is of another table.
 leave << END
 |insert t1 1 t=v1|$H1$I$K1$V1||$(from 0 1)$(wider 1 3 $T1)||taken 1 version 1|version 1 pending 1 flight 0|t1 1 t=v1 null|$W1$I$K1${V1}05
 |insert t1 1 t=v1|$H1$I$K1$V1|update t1 1 t=v2;insert t1 2 t=x|$(from 0 1)$(wider 1 3 $T1)||taken 1 version 1|version 1 pending 2 flight 0|t1 1 t=v2 null;t1 2 t=x null|$W1$I$K1${V2}05$I$K2${X}05
@@ -376,8 +377,8 @@ $H1$I$K1$V1|insert t2 1 t=b0 t=c0 t=d0|$row0|update t1 1 t=v2|$(from 1 1)$(wider
 $row0|||insert t1 1 t=v1;update t2 1 t=b1 - t=d1|$(from 1 1)$(wider 1 6 $T2)||taken 1 version 2|version 2 pending 2 flight 0|t1 1 t=v1;t2 1 t=b1 t=c0 t=d1 null null|$H1$I$K1$V1$W2$U$K1$B0$N$D0$N$N$N$B1$N$D1$N$N
 END
 
-# One table twice, and two tables; entries of the old columns before it and of the new ones behind it; and one of the others, on each side. A push that is told
-# before it is confirmed with the columns that it had.
+# One table twice, and two tables; entries of the old columns before it and of the new ones behind it; and one of the others, on each side.
+# A push that is told before it is confirmed with the columns that it had.
 leave << END
 |||insert t1 1 t=v1|$(from 0 2)$(wider 1 3 $T1)$(wider 1 5 $T1)||taken 2 version 2|version 2 pending 1 flight 0|t1 1 t=v1 null null null|$W5$I$K1${V1}050505
 $row0|||insert t1 1 t=v1|$(from 1 2)$(wider 1 3 $T1)$(wider 2 6 $T2)||taken 2 version 3|version 3 pending 1 flight 0|t1 1 t=v1 null;t2 1 t=b0 t=c0 t=d0 null null|$W1$I$K1${V1}05
@@ -389,8 +390,8 @@ $row0|||insert t1 1 t=v1|$(from 1 2)$(wider 1 3 $T1)$(wider 2 6 $T2)||taken 2 ve
 |insert t1 1 t=v1|$H1$I$K1$V1||$(from 0 2)$(wider 1 3 $T1)$(entry 7 1 $W1$I$K1${V1}05)|k|taken 2 version 2|version 2 pending 0 flight 0|t1 1 t=v1 null|
 END
 
-# A clash in front of it is kept, taken and stopped at, and it asks nobody; a clash behind it is over the own change with the new column, and the stop leaves
-# what was taken. Entries told together are of the tables there.
+# A clash in front of it is kept, taken and stopped at, and it asks nobody; a clash behind it is over the own change with the new column,
+# and the stop leaves what was taken. Entries told together are of the tables there.
 leave << END
 $H1$I$K1$V1|||update t1 1 t=y|$(from 1 2)$(entry 9 1 $H1$U$K1$V1$N$X)$(wider 1 3 $T1)|k|taken 2 version 3|version 3 pending 1 flight 0|t1 1 t=y null|$W1$U$K1$X$N$N$Y$N
 $H1$I$K1$V1|||update t1 1 t=y|$(from 1 2)$(entry 9 1 $H1$U$K1$V1$N$X)$(wider 1 3 $T1)|t|taken 2 version 3|version 3 pending 0 flight 0|t1 1 t=x null|
@@ -401,8 +402,8 @@ $H1$I$K1$V1|||update t1 1 t=y|$(from 1 2)$(wider 1 3 $T1)$(entry 9 1 $W1$U$K1${N
 $H1$I$K1$V1|update t1 1 t=y|$H1$U$K1$V1$N$Y||$(from 1 2)$(wider 1 3 $T1)$(entry 9 1 $W1$D$K1${V1}05)|k|taken 2 version 3|version 3 pending 1 flight 0|t1 1 t=y null|$W1$I$K1${Y}05
 END
 
-# What gives no columns: bytes that end early; a name that isn't UTF-8; tables that aren't there; a width that isn't above the present one, or above 2,000. What was
-# told before it stays, also of the columns, and what stands behind it isn't taken.
+# What gives no columns: bytes that end early; a name that isn't UTF-8; tables that aren't there; a width that isn't above the present one,
+# or above 2,000. What was told before it stays, also of the columns, and what stands behind it isn't taken.
 while IFS='|' read -r body; do
     bad="$(printf '01ffffffff%016x%08x%s' 2 $((${#body} / 2)) "$body")"
     leaves '' '' '' 'insert t1 2 t=x' "$(from 0 3)$(entry 9 1 $H1$I$K1$V1)$bad$(wider 3 3 $T1)" '' 'fault BadEntry after 1' 'version 1 pending 1 flight 0' \
@@ -432,8 +433,9 @@ END
 leaves '' '' '' '' "$(from 0 2)$(wider 1 3 $T1)$(wider 2 3 $T1)" '' 'fault BadEntry after 1' 'version 1 pending 0 flight 0' '' ''
 leaves '' '' '' '' "$(from 0 2)$(wider 1 2000 $T1)$(wider 2 2001 $T1)" '' 'fault BadEntry after 1' 'version 1 pending 0 flight 0' '' ''
 
-# It is told for its version alone: before it, it is passed over, and behind it, it isn't reached. Another origin gives columns too, also the replica's own
-# with the number of what is under way, which then is pending again; and a push of the origin of such entries is another's.
+# It is told for its version alone: before it, it is passed over, and behind it, it isn't reached. Another origin gives columns too, also
+# the replica's own with the number of what is under way, which then is pending again; and a push of the origin of such entries is
+# another's.
 leave << END
 $H1$I$K1$V1||||$(from 0 2)$(wider 1 9 $T1)$(wider 2 3 $T1)||taken 1 version 2|version 2 pending 0 flight 0|t1 1 t=v1 null|
 ||||$(from 1 1)$(wider 1 3 $T1)||taken 0 version 0|version 0 pending 0 flight 0||
@@ -474,8 +476,9 @@ say "answer $(from 4 1)$(wider 2 5 $T1) -" 'taken 1 version 5'
 say push "$(push 4 5 $W5$D$K2${X}050505)"
 goes
 
-# ---- the words by which a file with wider tables is opened: with the columns that they had, or any of these in front, and those that they have; but not with
-# more, with other key columns, or tables in another order, of another number or name. Of a file that no entry widened the same holds
+# ---- the words by which a file with wider tables is opened: with the columns that they had, or any of these in front, and those that they
+# have; but not with more, with other key columns, or tables in another order, of another number or name. Of a file that no entry widened
+# the same holds
 
 # opened TABLES: by these words the file of replica 7 shows its rows. opened_not: it isn't opened, and is as it was.
 opened() {
@@ -722,7 +725,8 @@ asks() {
     output="$output$(reply "$@")"
 }
 
-# The lines that look, over no row and over some, and what is pending, also behind a push; tables that aren't there, and a key of no row, of another width and of NULL.
+# The lines that look, over no row and over some, and what is pending, also behind a push; tables that aren't there, and a key of no row, of
+# another width and of NULL.
 begins
 asks place 'replica 7 version 0 pending 0 flight 0'
 asks tables 'table t1 10' 'table t2 1000'
@@ -773,7 +777,8 @@ asks ' place' unread
 asks place 'replica 7 version 0 pending 0 flight 0'
 follows "$input" "$output"
 
-# Several edits are one request with one reply, and one commit: each on what those before it left, all or none. Its lines are read in any case.
+# Several edits are one request with one reply, and one commit: each on what those before it left, all or none. Its lines are read in any
+# case.
 begins
 asks 'edits 2\nedit insert t1 1 t=v1\nedit update t1 1 t=v2' ok
 asks pending 'table t1 10' 'insert 0 1 t=v2'
@@ -830,8 +835,8 @@ for line in place tables 'rows t1' 'row t1 1' pending 'edits 0' 'edits 1'; do
     expect 1 "$line\n" '' 'sync: line 1\n' node "$file" 7 t1:10
 done
 
-# sees BASE EDITS CHANGESET CLASH WISH PLACE: over the log's rows by BASE and own edits, another's changeset is stopped at, at this clash, is told again with the
-# wish, and the replica stands there then.
+# sees BASE EDITS CHANGESET CLASH WISH PLACE: over the log's rows by BASE and own edits, another's changeset is stopped at, at this clash,
+# is told again with the wish, and the replica stands there then.
 sees() {
     begins
     asks "answer $(others 0 "$1") s" 'taken 1 version 1'
@@ -856,8 +861,8 @@ $H1$I$K2$V1|insert t1 1 t=v1|$H1$I$K1$V2|conflict t1 insert 0 1 t=v2 row 1 t=v1 
 $row0|update t2 1 t=b1 - -|$H2$U$K1$B0$C0$N$N$B2$C2$N|data t2 update 0 1 t=b0 t=c0 - > - t=b2 t=c2 - row 1 t=b1 t=c0 t=d0 own update 0 1 t=b0 - - > - t=b1 - - lawful t|t|version 2 pending 0 flight 0
 END
 
-# Three clashes of one entry are seen one by one, and nothing is taken meanwhile; of two entries the first is taken before the second is stopped at; and entries that
-# are told together are one.
+# Three clashes of one entry are seen one by one, and nothing is taken meanwhile; of two entries the first is taken before the second is
+# stopped at; and entries that are told together are one.
 begins
 asks 'edit insert t1 1 t=x' ok
 asks 'edit insert t1 2 t=y' ok
@@ -882,7 +887,8 @@ output=''
 asks place 'replica 7 version 5 pending 0 flight 0'
 follows "$input" "$output"
 
-# A table that gets columns in one run: what is shown, several edits as one request, and clashes behind it, of which one is stopped at with the columns taken.
+# A table that gets columns in one run: what is shown, several edits as one request, and clashes behind it, of which one is stopped at with
+# the columns taken.
 begins
 W4=540401000000743100
 asks 'edit insert t1 1 t=v1' ok
@@ -1012,9 +1018,9 @@ version|0000000000000000"
     holds 'what it keeps behind a second run'
     opens_not 8 Mismatch
 
-    # Values that can't be read, or that don't fit: a version too short, a number too long, the number of another push, a push under way that
-    # ends early, an id too short, pending changes as a value beside those at their places; an entry of a log; and a pending change at a table
-    # that isn't there, at another key than its own, of a row that isn't there, and of another row.
+    # Values that can't be read, or that don't fit: a version too short, a number too long, the number of another push, a push under way
+    # that ends early, an id too short, pending changes as a value beside those at their places; an entry of a log; and a pending change at
+    # a table that isn't there, at another key than its own, of a row that isn't there, and of another row.
     while read -r sql; do
         changes "$sql"
         opens_not 7 Damaged
@@ -1065,7 +1071,8 @@ END
     kept $second
     opens_not 8 Mismatch
 
-    # What is kept behind an entry that gave the table a column: one with an own number too, where what is under way has no changes. A second run leaves it so.
+    # What is kept behind an entry that gave the table a column: one with an own number too, where what is under way has no changes. A
+    # second run leaves it so.
     wide_values="catalog|$W1
 id|00000007
 number|0000000000000001
@@ -1087,7 +1094,8 @@ version|0000000000000001"
         done
     done
 
-    # A row, a pending change and a push under way of the columns before; rows of more columns than the tables; tables with another key column behind them.
+    # A row, a pending change and a push under way of the columns before; rows of more columns than the tables; tables with another key
+    # column behind them.
     "$shell" "$file" 'PRAGMA wal_checkpoint(TRUNCATE)' > "$dir/shell" 2>&1
     cp "$file" "$dir/filled"
     while read -r told sql; do

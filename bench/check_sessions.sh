@@ -1,8 +1,8 @@
 #!/bin/sh
-# Runs the built program `sync` on what a person types, and compares each run's status, output and errors with what they have to
-# be: a hub's sessions, tables that get more columns, each request and changeset that it refuses, each front of requests and of a pushed changeset,
-# long lines, a long log; the tools by their words; table words that are read and that are refused; command lines that aren't taken; the help; and
-# reads and writes that fail in mid-stream. One case is one run.
+# Runs the built program `sync` on what a person types, and compares each run's status, output and errors with what they have to be: a hub's
+# sessions, tables that get more columns, each request and changeset that it refuses, each front of requests and of a pushed changeset, long
+# lines, a long log; the tools by their words; table words that are read and that are refused; command lines that aren't taken; the help;
+# and reads and writes that fail in mid-stream. One case is one run.
 # Usage: bench/check_sessions.sh PROGRAM
 # A read that fails is that of a terminal whose other side is gone, for which it wants python3 (as `rt` does).
 set -u
@@ -24,7 +24,8 @@ catch() {
     printf '03%08x%016x%08x' "$1" "$2" "$3"
 }
 
-# accepted ORIGIN NUMBER VERSION, stale NEWEST, entries FIRST [ENTRY..], entry ORIGIN NUMBER CHANGESET: answers, and an entry of the last but one.
+# accepted ORIGIN NUMBER VERSION, stale NEWEST, entries FIRST [ENTRY..], entry ORIGIN NUMBER CHANGESET: answers, and an entry of the last
+# but one.
 accepted() {
     printf '11%08x%016x%016x' "$1" "$2" "$3"
 }
@@ -75,8 +76,8 @@ answers() {
     expect 0 "$(printf '%s\\n' "$@")" "$answer" '' hub t1:10
 }
 
-# session [TABLE..]: a new hub of these tables, or of t1, answers the requests of a table, which stands on the input: a line each, its answer before
-# it. It answers so in memory and over a file.
+# session [TABLE..]: a new hub of these tables, or of t1, answers the requests of a table, which stands on the input: a line each, its
+# answer before it. It answers so in memory and over a file.
 session() {
     [ "$#" -gt 0 ] || set -- t1:10
     cat > "$dir/table"
@@ -135,8 +136,8 @@ session << END
 110000000800000000000000030000000000000004 $(push 8 3 3 $insert)
 END
 
-# ---- each case of a push, in the order in which they are judged: no change, a base above the newest version, a change that isn't defined, taken;
-# below the newest version the same push and others; and at the end the log that was made
+# ---- each case of a push, in the order in which they are judged: no change, a base above the newest version, a change that isn't defined,
+# taken; below the newest version the same push and others; and at the end the log that was made
 
 session << END
 132a $(push 7 1 0 '')
@@ -156,8 +157,9 @@ $(accepted 7 3 3) $(push 7 3 2 $delete_updated)
 $(entries 0 $(entry 7 1 $insert) $(entry 7 2 $update) $(entry 7 3 $delete_updated)) $(pull 0 10)
 END
 
-# ---- changes that aren't defined where (1, 'v1') stands: that row is there, with other values too; a DELETE of (1, 'v2') and of (2, 'x'); the
-# UPDATE of (2, 'x') to 'y'; and an UPDATE that is defined before a DELETE that isn't. Nothing changes: the log has one entry, and the row is as it was
+# ---- changes that aren't defined where (1, 'v1') stands: that row is there, with other values too; a DELETE of (1, 'v2') and of (2, 'x');
+# the UPDATE of (2, 'x') to 'y'; and an UPDATE that is defined before a DELETE that isn't. Nothing changes: the log has one entry, and the
+# row is as it was
 
 for changeset in $insert 540201007431001200010000000000000001030178 $delete_updated 540201007431000900010000000000000002030178 \
     54020100743100170001000000000000000203017800030179 \
@@ -170,8 +172,8 @@ $(accepted 7 2 2) $(push 7 2 1 $delete)
 END
 done
 
-# ---- a log of three entries of two replicas: each push again; what differs from an entry in its number, its origin, its changes or its version; and
-# the entries from each version on, so many of them
+# ---- a log of three entries of two replicas: each push again; what differs from an entry in its number, its origin, its changes or its
+# version; and the entries from each version on, so many of them
 
 session << END
 $(accepted 7 1 1) $(push 7 1 0 $insert)
@@ -215,7 +217,8 @@ $(merged 7 2 2 '') $(catch 7 2 10)
 1328 $(catch 9 18446744073709551615 4294967295)
 END
 
-# ---- entries of two replicas, of whom each is told what the other's do together, up to an entry of its own; an INSERT and its DELETE are nothing
+# ---- entries of two replicas, of whom each is told what the other's do together, up to an entry of its own; an INSERT and its DELETE are
+# nothing
 
 session << END
 $(accepted 7 1 1) $(push 7 1 0 $insert)
@@ -236,7 +239,8 @@ $(merged 7 2 3 $delete_updated) $(catch 7 2 10)
 $(entries 3 $(entry 7 3 $insert)) $(catch 7 3 10)
 END
 
-# ---- rows of two tables: what is told stands in the order of the hub's tables and of the keys. A row of t2 comes and goes, and one of t1 is indirect
+# ---- rows of two tables: what is told stands in the order of the hub's tables and of the keys. A row of t2 comes and goes, and one of t1
+# is indirect
 
 one=540201007431001200010000000000000005030161540201007432001200010000000000000002030178
 two=54020100743100120101000000000000000103016154020100743200170001000000000000000203017800030179
@@ -252,7 +256,8 @@ $(merged 8 0 1 $one) $(catch 8 0 10)
 $(merged 7 1 2 $two) $(catch 7 1 10)
 END
 
-# ---- a table gets more columns: the worked requests; then the row is (1, 'v1', NULL), as the DELETE that is accepted tells, and the one that isn't
+# ---- a table gets more columns: the worked requests; then the row is (1, 'v1', NULL), as the DELETE that is accepted tells, and the one
+# that isn't
 
 key1=010000000000000001
 key2=010000000000000002
@@ -276,8 +281,9 @@ $(accepted 8 3 4) $(push 8 3 3 $delete_wide)
 $(entries 0 $(entry 7 1 $insert) $(wider 1 3 7431) $(entry 8 2 $insert_wide) $(entry 8 3 $delete_wide)) $(pull 0 10)
 END
 
-# It is judged by the entry at its base before the table is looked for, and a push by the tables at its base, or where that is above the newest version
-# by those there. Entries that are taken together end before the one that gives columns, and that is told by itself, whoever asks.
+# It is judged by the entry at its base before the table is looked for, and a push by the tables at its base, or where that is above the
+# newest version by those there. Entries that are taken together end before the one that gives columns, and that is told by itself, whoever
+# asks.
 session << END
 $(accepted 7 1 1) $(push 7 1 0 $insert)
 $(widened 5 2) $(widen 5 1 3 7431)
@@ -321,7 +327,8 @@ $(entries 0 $(entry 7 1 $insert)) $(catch 7 0 10)
 $(entries 1 $(wider 5 3 7431) $(entry 7 2 $update_wide)) $(pull 1 2)
 END
 
-# One table twice, another one whose key is its first and its third column, and each without a row that stays. All have one number, and each counts.
+# One table twice, another one whose key is its first and its third column, and each without a row that stays. All have one number, and each
+# counts.
 two_five=54050100010000743200
 delete_six=540601000000000074310009000100000000000000010302763105050505
 delete_five=${two_five}090001000000000000000503016203016b0505

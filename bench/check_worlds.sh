@@ -1,14 +1,15 @@
 #!/bin/sh
 # Runs the built program `sync world` on scripts, and compares each run's status, output and errors with what they have to be: worlds of a
-# hub, replicas and their messages with what each event comes to and how the world stands at the end, also while tables get more columns, what is refused, words that are
-# read, and lines that can't be read. One case is one run. (`worlds.sh` draws worlds and compares hub and replicas in them.)
+# hub, replicas and their messages with what each event comes to and how the world stands at the end, also while tables get more columns,
+# what is refused, words that are read, and lines that can't be read. One case is one run. (`worlds.sh` draws worlds and compares hub and
+# replicas in them.)
 # Usage: bench/check_worlds.sh PROGRAM
 set -u
 program="${1:?usage: bench/check_worlds.sh PROGRAM}"
 . "$(dirname "$0")/running.sh"
 
-# plays N [TABLE..]: a world of N replicas of these tables, or of t1, makes the events of a table, which stands on the input: a line each, behind a bar
-# what it comes to, and behind the last event, in lines that begin with the bar, how the world stands then.
+# plays N [TABLE..]: a world of N replicas of these tables, or of t1, makes the events of a table, which stands on the input: a line each,
+# behind a bar what it comes to, and behind the last event, in lines that begin with the bar, how the world stands then.
 plays() {
     [ "$#" -gt 1 ] || set -- "$1" t1:10
     cat > "$dir/table"
@@ -448,7 +449,8 @@ deliver 3 -                      | sent 4
 | row t1 8 t=A%C3%A9
 END
 
-# ---- a long log: 4,097 pushes of a row each are accepted, and another replica takes them all at once; the hub and both have the rows of all
+# ---- a long log: 4,097 pushes of a row each are accepted, and another replica takes them all at once; the hub and both have the rows of
+# all
 
 awk 'BEGIN {
     for (made = 0; made < 4097; made++) {
@@ -471,8 +473,8 @@ seconds=120
 plays 2 < "$dir/long"
 seconds=20
 
-# ---- a table gets a column while a push is on its way: it comes late, its change is pending again, with NULL in the column, and is pushed once more. The
-# answer to the request is told to nobody, and what comes late then changes nothing
+# ---- a table gets a column while a push is on its way: it comes late, its change is pending again, with NULL in the column, and is pushed
+# once more. The answer to the request is told to nobody, and what comes late then changes nothing
 
 plays 1 << 'END'
 edit 0 insert t1 1 t=v1 | ok
@@ -548,8 +550,8 @@ deliver 7 -             | accepted 3
 | row t1 1 t=v2 null
 END
 
-# ---- what is under way and what is pending become one, and the next push has the column: an INSERT that was changed and another; a DELETE; an UPDATE; an
-# UPDATE that was taken back; an INSERT that was deleted
+# ---- what is under way and what is pending become one, and the next push has the column: an INSERT that was changed and another; a DELETE;
+# an UPDATE; an UPDATE that was taken back; an INSERT that was deleted
 
 plays 1 << 'END'
 edit 0 insert t1 1 t=v1 | ok
@@ -657,10 +659,11 @@ push 0                  | refused Nothing
 | replica 0 version 1 pending 0 flight 0
 END
 
-# ---- a clash in front of the columns: it is asked about once, and the columns ask nobody. Kept, the own change has them; taken, nothing is left; and
-# where it is stopped they don't come
+# ---- a clash in front of the columns: it is asked about once, and the columns ask nobody. Kept, the own change has them; taken, nothing is
+# left; and where it is stopped they don't come
 
-# clashes WISHES: the events of two replicas that change a row, behind which the hub gives its table a column, and the second is told both by these wishes.
+# clashes WISHES: the events of two replicas that change a row, behind which the hub gives its table a column, and the second is told both
+# by these wishes.
 clashes() {
     cat << END
 edit 0 insert t1 1 t=v1 | ok
@@ -802,7 +805,8 @@ deliver 15 s            | taken 1 version 4
 | row t1 1 t=y 5
 END
 
-# ---- two requests for one table and one for another, pulled at once: the rows of both, edits of the old width, and a replica that begins anew
+# ---- two requests for one table and one for another, pulled at once: the rows of both, edits of the old width, and a replica that begins
+# anew
 
 plays 1 t1:10 t2:101 << 'END'
 edit 0 insert t2 1 5 t=k         | ok
@@ -839,7 +843,8 @@ edit 0 delete t2 1 t=k           | ok
 | row t2 1 null t=m null null null
 END
 
-# ---- a table without rows, one entry at a time; the request twice, with a push between, and others that the hub refuses, each told to nobody
+# ---- a table without rows, one entry at a time; the request twice, with a push between, and others that the hub refuses, each told to
+# nobody
 
 plays 1 << 'END'
 widen 1 0 t1 3          | sent 0
@@ -930,8 +935,8 @@ deliver 19 -             | accepted 6
 | row t1 2 t=z null
 END
 
-# ---- five replicas with a push on its way: that of each in turn comes before the columns, and is taken with the columns that it has; those of the others come
-# behind, are late, and are made anew with the new one
+# ---- five replicas with a push on its way: that of each in turn comes before the columns, and is taken with the columns that it has; those
+# of the others come behind, are late, and are made anew with the new one
 
 for early in 0 1 2 3 4; do
     awk -v early="$early" '

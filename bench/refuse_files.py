@@ -125,7 +125,8 @@ COMMANDS = [
       "answer 14000000000000000100000001000000000900000000000000010000001654020100743100120001000000000000000203027631 -", "edit update t1 1 t=v2", "catch 10",
       "answer 1500000007000000000000000200000000000000040000001654020100743100120001000000000000000303027631 -"],
      ["dump", "resend", "push"], r"^(refused|fault) Memory"),
-    # Another's entry, taken; an edit, and at the end an entry at which a wish stops. The text of its clash takes five allocations, so more of all are refused.
+    # Another's entry, taken; an edit, and at the end an entry at which a wish stops. The text of its clash takes five allocations, so more
+    # of all are refused.
     ("follow", ["node", "--follow", "@", "7", TABLE], [],
      [f"answer {TAKEN} s", "place", "edit insert t1 1 t=v1", f"answer {CLASHES} s"], ["dump", "pending"], r"^(refused|fault) Memory|clash Memory$", 5),
     # Several edits as one request: some that are made, and some of which the second is refused.
@@ -144,7 +145,8 @@ COMMANDS = [
      [f"answer {WIDER} s", "place", "edits 2\nedit update t1 1 - 5\nedit delete t1 2",
       "answer 14000000000000000200000001000000000900000000000000020000001954030100007431001200010000000000000001030161030162 s"], ["dump", "pending"],
      r"^(refused|fault) Memory|clash Memory$", 3),
-    # The same at a hub: the request twice, a push by the tables of before and one by those behind it, a refused one, and what was made of it.
+    # The same at a hub: the request twice, a push by the tables of before and one by those behind it, a refused one, and what was made of
+    # it.
     ("hub-column", ["hub", "--file", "@", TABLE], [f"01000000070000000000000001000000000000000000000016{INSERT}"],
      [WIDEN, WIDEN, f"01000000070000000000000001000000000000000000000016{INSERT}", f"01000000080000000000000001000000000000000200000019{INSERT_WIDE}",
       "040000000000000002000000000000000300000003000000027431", "0200000000000000000000000a", "030000000900000000000000000000000a", "030000000900000000000000010000000a"],

@@ -89,8 +89,8 @@ else
     sed p "$crate/../sync_cli/stdin" > "$out/requests"
     refuse_hub "$out/requests"
 
-    # A row, two columns one after the other, each asked for twice, a push by the columns of before and again, one by the new ones, and the DELETE that tells
-    # the row. What the entries do together ends before the first column, and that is told by itself.
+    # A row, two columns one after the other, each asked for twice, a push by the columns of before and again, one by the new ones, and the
+    # DELETE that tells the row. What the entries do together ends before the first column, and that is told by itself.
     inserts=0100000007000000000000000100000000000000000000001654020100743100120001000000000000000103027631
     asks=040000000000000001000000000000000100000003000000027431
     wide=54050100000000743100

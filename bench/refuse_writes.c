@@ -1,6 +1,7 @@
-/* Loaded in front of the C library (LD_PRELOAD): counts the calls that write, cut, flush, rename or remove a file, and at the one whose number, from 1, stands in
- * STOP kills the program before it is done, or lets the one whose number stands in FAIL fail, with nothing done. Where there is none of that number, it
- * writes how many there were to the file descriptor 9 at the end. Standard output and what is no file aren't counted. */
+/* Loaded in front of the C library (LD_PRELOAD), counts the calls that write, cut, flush, rename or remove a file. At the one whose
+ * number, from 1, stands in STOP it kills the program, before the call is done. The one whose number stands in FAIL fails, with nothing
+ * done. Where there is none of that number, it writes how many there were to the file descriptor 9 at the end. Standard output and what
+ * is no file aren't counted. */
 #define _GNU_SOURCE
 #include <dlfcn.h>
 #include <errno.h>

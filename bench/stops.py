@@ -7,12 +7,13 @@ kept, to be handed on later, also twice, late or never. Some requests give the t
   What SQLite finds in its tables is the same too: each row, pending change, value and entry;
 - what was told is what those lines are told without a stop.
 
-At the end all is delivered, without stops, until all are at rest. Then each replica has the same rows, and the hub; each row that was told to be inserted, and that
-nobody else touched, is there; the log has no two pushes of one origin and one number; no push was answered as a conflict; and SQLite finds each file whole.
+At the end all is delivered, without stops, until all are at rest. Then each replica has the same rows, and the hub; each row that was told
+to be inserted, and that nobody else touched, is there; the log has no two pushes of one origin and one number; no push was answered as a
+conflict; and SQLite finds each file whole.
 
-Before that, a column is given at the hub, and taken at a replica, on files of many rows, with a stop at each call that writes to a file. The file is as it was or
-as the column leaves it, whole. And each of these calls fails once: what is told is then Device, and the file as it was, or it was done.
-A kill leaves to the file what the system was told to write: this shows processes that stop, and no power that fails.
+Before that, a column is given at the hub, and taken at a replica, on files of many rows, with a stop at each call that writes to a file.
+The file is as it was or as the column leaves it, whole. And each of these calls fails once: what is told is then Device, and the file as it
+was, or it was done. A kill leaves to the file what the system was told to write: this shows processes that stop, and no power that fails.
 Usage: stops.py PROGRAM ROUNDS [SEED [REFUSE_WRITES.so]]"""
 
 import glob

@@ -1,6 +1,6 @@
 #!/bin/sh
-# Stops the built program by SIGKILL at drawn moments, in `sync hub --file` and `sync node`, and at each call that writes where a table gets a column, and
-# looks at what the files hold then (`stops.py` says how). The files of a world that fails are kept beside the output.
+# Stops the built program by SIGKILL at drawn moments, in `sync hub --file` and `sync node`, and at each call that writes where a table gets
+# a column, and looks at what the files hold then (`stops.py` says how). The files of a world that fails are kept beside the output.
 # Usage: bench/stops.sh PROGRAM [ROUNDS] [SEED]
 set -eu
 bench="$(cd "$(dirname "$0")" && pwd)"

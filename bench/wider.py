@@ -1,9 +1,9 @@
 """Times a table that gets columns: see wider.sh. Usage: wider.py PROGRAM FOLDER ROWS LATER
 
-Fills a hub of t1(a key, b) with so many rows, in memory and on a file, and gives the table a column, three times. Beside it SQLite's ALTER TABLE ADD COLUMN on a
-table of these rows, and an UPDATE that sets the column in every row, in one transaction. Then a replica's file of these rows takes such an entry. Then pushes
-and pulls of a hub with LATER rows, and edits of a replica, on twelve columns: ten of them that the table got one by one, beside a table that had them
-from the start. The least of the turns counts.
+Fills a hub of t1(a key, b) with so many rows, in memory and on a file, and gives the table a column, three times. Beside it SQLite's ALTER
+TABLE ADD COLUMN on a table of these rows, and an UPDATE that sets the column in every row, in one transaction. Then a replica's file of
+these rows takes such an entry. Then pushes and pulls of a hub with LATER rows, and edits of a replica, on twelve columns: ten of them that
+the table got one by one, beside a table that had them from the start. The least of the turns counts.
 """
 
 import os

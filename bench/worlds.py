@@ -1,9 +1,10 @@
-"""Drawn worlds. Each seed makes a script of events: edits of few rows, pushes, pushes sent again, pulls and catches, columns that tables get, deliveries of
-any message that was ever sent (so messages are lost, come twice, and out of order), restarts, and all wishes. What is asked for is told one by one or at once. Then
-comes a closing part, round by round: pushes that are under way are sent again, each replica pulls, and what is pending is pushed, one replica after another,
-until all are at rest. While a script is drawn, a model of the hub and the replicas (below, by docs/FORMATS.md alone) makes its events. The program plays the script, and has to
-print line by line what the model came to. At the end the hub and each replica have to show the same rows, at one version, with nothing pending
-and nothing under way; and in no run was a push a conflict or an entry a bad one.
+"""Drawn worlds. Each seed makes a script of events: edits of few rows, pushes, pushes sent again, pulls and catches, columns that tables
+get, deliveries of any message that was ever sent (so messages are lost, come twice, and out of order), restarts, and all wishes. What is
+asked for is told one by one or at once. Then comes a closing part, round by round: pushes that are under way are sent again, each replica
+pulls, and what is pending is pushed, one replica after another, until all are at rest. While a script is drawn, a model of the hub and the
+replicas (below, by docs/FORMATS.md alone) makes its events. The program plays the script, and has to print line by line what the model came
+to. At the end the hub and each replica have to show the same rows, at one version, with nothing pending and nothing under way; and in no
+run was a push a conflict or an entry a bad one.
 Usage: worlds.py PROGRAM SEEDS [FIRST]"""
 
 import multiprocessing
