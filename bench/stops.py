@@ -417,16 +417,18 @@ class Giving:
         for number in range(1, calls + 1):
             status, told, error, _ = self.refused("FAIL", number, line)
             if (status, error) == (0, "") and told == whole:
-                done = after
+                left = [after]
             elif (status, told, error) in [(1, [], "sync: Device"), (0, self.device, "")]:
-                done = self.before
+                # What had been written by then may be found all the same, as after a stop.
+                left = [self.before, after]
                 failed += 1
             else:
                 raise Wrong("%s, call %s failed: status %s, told %s and %s" % (line, number, status, told, error))
-            if self.party.shown(self.party.path, [])[0] != done:
+            now = self.party.shown(self.party.path, [])[0]
+            if now not in left:
                 raise Wrong("%s, call %s failed: told %s and %s, and the file isn't what that says" % (line, number, told, error))
             again = self.party.shown(self.party.path, [line])
-            if done is self.before and again != (after, whole):
+            if now == self.before and again != (after, whole):
                 raise Wrong("%s, call %s failed: made again, it is told %s" % (line, number, again[1]))
         return calls, counts, failed
 
