@@ -157,10 +157,10 @@ COMMANDS = [
      ["02000000000000000000001000"], r"^1301$"),
     ("node-columns", ["node", "@", "7", TABLE], [f"answer {TAKEN} s", "edit insert t1 1 t=v1", f"answer {WIDER} s"],
      ["edit update t1 1 - 5", "push", "resend"], ["dump", "resend", "push"], r"^(refused|fault) Memory"),
-    # A column in a world: asked for twice, taken by one replica and asked for by the other, whose push comes late.
+    # A column in a world: taken by one replica, entry by entry, and asked for by the other, whose push comes late.
     ("world-column", ["world", "2", TABLE], [],
-     ["edit 0 insert t1 1 t=v1", "push 0", "deliver 0 -", "edit 1 insert t1 2 t=v2", "push 1", "widen 1 1 t1 3", "deliver 3 -", "deliver 4 -", "pull 1 10", "deliver 5 -", "deliver 6 -",
-      "push 1", "catch 0 10"], [], r"Memory"),
+     ["edit 0 insert t1 1 t=v1", "push 0", "deliver 0 -", "edit 1 insert t1 2 t=v2", "push 1", "widen 1 1 t1 3", "deliver 3 -", "deliver 4 -", "pull 1 1", "deliver 5 -", "deliver 6 -",
+      "pull 1 1", "deliver 7 -", "deliver 8 -", "push 1", "catch 0 10"], [], r"Memory"),
     # Edits of two replicas, a push that reaches the hub, questions for entries and for what they do together, and the second's answer.
     ("world", ["world", "2", TABLE], [],
      ["edit 0 insert t1 1 t=v1", "edit 1 insert t1 2 t=v2", "push 0", "deliver 0 -", "pull 1 10", "edit 0 update t1 1 t=v3", "catch 1 10", "deliver 3 -", "deliver 4 -"], [], r"Memory"),

@@ -28,7 +28,7 @@ fn filled(alloc: Global) -> Option<(Catalogs, Store)> {
 /// Whether the log has this entry at a version.
 fn has(alloc: Global, version: u32, push: Push) -> Option<bool> {
     let (catalogs, mut store) = filled(alloc)?;
-    let entry = entry_of(alloc, catalogs.present(), push)?;
+    let entry = entry_of(alloc, catalogs.at(version as u64), push)?;
     has_entry(alloc, &mut store, &catalogs, version, &entry).ok()
 }
 
