@@ -72,13 +72,13 @@ fn is_moved_at_once(alloc: Global, passes: u64) -> Option<bool> {
     Some(opened(alloc, kept(alloc, passes)?).is_some())
 }
 
-/// A store is asked thirteen times: for its id and the value, for two signs of damage, and for six values. It is asked for the rows and
-/// pending changes of the table, which are copied, and for the commit.
+/// A store is asked fourteen times: for its tables, its id and the value, for two signs of damage, and for six values. It is asked for
+/// the rows and pending changes of the table, which are copied, and for the commit.
 #[test]
 fn a_value_stays_where_the_device_refuses(rt: HostRuntime) {
     let alloc = rt.alloc();
-    for passes in 0..13u64 {
+    for passes in 0..14u64 {
         assert!(rt; is_moved_again(alloc, passes).unwrap_or(false));
     }
-    assert!(rt; is_moved_at_once(alloc, 13).unwrap_or(false));
+    assert!(rt; is_moved_at_once(alloc, 14).unwrap_or(false));
 }

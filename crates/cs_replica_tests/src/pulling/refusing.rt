@@ -29,13 +29,13 @@ fn inserting(alloc: Global) -> Option<LogEntry> {
     entry(alloc, 9, &[&H1, &INSERT, &K1, &V2])
 }
 
-/// Another's entry, which widens the table to three columns.
-fn widening(alloc: Global) -> Option<LogEntry> {
-    let table = Text::from_string(String::from_str(alloc, "t1").ok()?);
+/// Another's entry, which gives a table so many columns.
+fn widening(alloc: Global, table: &str, width: u32) -> Option<LogEntry> {
+    let table = Text::from_string(String::from_str(alloc, table).ok()?);
     Some(LogEntry {
         origin: 9,
         number: 1,
-        body: Body::Widen { table, width: 3 },
+        body: Body::Widen { table, width },
     })
 }
 
@@ -70,9 +70,12 @@ fn entries_out_of_turn_are_refused(rt: HostRuntime) {
     assert!(rt; is_refused(alloc, &[], 1, inserting(alloc), "Gap", &OWN_ROW).unwrap_or(false));
 }
 
+/// No more columns than the table has, more than one may have, and a table that isn't there.
 #[test]
-fn an_entry_that_widens_is_refused(rt: HostRuntime) {
+fn a_table_that_may_not_be_widened_is_refused(rt: HostRuntime) {
     let alloc = rt.alloc();
-    let is_bad = is_refused(alloc, &[], 0, widening(alloc), "BadEntry", &OWN_ROW);
-    assert!(rt; is_bad.unwrap_or(false));
+    for (table, width) in [("t1", 2), ("t1", 2001), ("t9", 3)] {
+        let entry = widening(alloc, table, width);
+        assert!(rt; is_refused(alloc, &[], 0, entry, "BadEntry", &OWN_ROW).unwrap_or(false));
+    }
 }
