@@ -164,7 +164,7 @@ fn a_hub_shows_what_it_has(rt: HostRuntime) {
     assert!(rt; is_taken(rt.alloc()) == Some(true));
 }
 
-/// A hub that has taken the INSERT. Its store refuses the call behind so many, of which eleven open the hub.
+/// A hub that has taken the INSERT. Its store refuses the call behind so many, of which twelve open the hub.
 fn filled(alloc: Global, calls: u64) -> Option<Hub<Store>> {
     let mut hub = hub_of_t1(alloc)?;
     if !answers(&mut hub, FIRST, ACCEPTED) {
@@ -187,10 +187,10 @@ fn is_answered_again(alloc: Global, calls: u64, asked: &[u8], expected: &[u8]) -
 fn what_the_device_refuses_changes_nothing(rt: HostRuntime) {
     let alloc = rt.alloc();
     let cases: [(u64, &'static [u8], &'static [u8]); 4] = [
-        (11, SECOND, SECOND_ACCEPTED),
         (12, SECOND, SECOND_ACCEPTED),
-        (11, FIRST, ACCEPTED),
-        (11, PULL, ONE_ENTRY),
+        (13, SECOND, SECOND_ACCEPTED),
+        (12, FIRST, ACCEPTED),
+        (12, PULL, ONE_ENTRY),
     ];
     for (calls, asked, expected) in cases {
         assert!(rt; is_answered_again(alloc, calls, asked, expected) == Some(true));

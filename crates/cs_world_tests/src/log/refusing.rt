@@ -95,15 +95,15 @@ fn are_opened_at_once(alloc: Global, bare_passes: u64, passes: u64) -> Option<bo
 }
 
 /// A store that holds nothing is asked nine times: for three signs of that, of which the first is six values, and for the commit. One
-/// with an entry is asked eleven times: for a sign, two values, four values, and four signs of damage.
+/// with an entry is asked twelve times: for a sign, two values, four values, four signs of damage, and whether the entry widens a table.
 #[test]
 fn what_the_device_refuses_is_not_opened(rt: HostRuntime) {
     let alloc = rt.alloc();
     for passes in 0..9u64 {
         assert!(rt; is_laid_out_again(alloc, passes) == Some(true));
     }
-    for passes in 0..11u64 {
+    for passes in 0..12u64 {
         assert!(rt; is_read_again(alloc, passes) == Some(true));
     }
-    assert!(rt; are_opened_at_once(alloc, 9, 11) == Some(true));
+    assert!(rt; are_opened_at_once(alloc, 9, 12) == Some(true));
 }
