@@ -1,5 +1,5 @@
 -- One place more is found, and all of them.
-use Rattle.std.proofs.Common.{◌≡◌, ◌≢◌, ◌⊎◌, inl, inr, ◌<◌, ◌+◌, ◌++◌, ℕ, zero, suc, List, [], ◌∷◌, length, map, take, get_or, Option, Some, None, refl, sym, subst, ap, ◌∙◌, arith}
+use Rattle.std.proofs.Common.{◌≡◌, ◌≢◌, ◌⊎◌, inl, inr, ◌<◌, ◌+◌, ◌++◌, ℕ, zero, suc, Bool, true, false, List, [], ◌∷◌, length, map, take, get_or, Option, Some, None, refl, sym, subst, ap, ◌∙◌, arith}
 use Rattle.std.specs.Prelude.{slice_get}
 use Rattle.std.specs.List.{AllByRecursion, Contains}
 use Rattle.std.proofs.lemmas.List.{take_more, take_all, map-append, length-append, append_assoc, get_or_append_left, get_or_default, get_or_push}
@@ -12,7 +12,7 @@ use Rattle.cs_apply.specs.Edited.{edit_list, edit_for}
 use Rattle.cs_apply.specs.Found.{AreSlots, IsSlotAt, heads}
 use Rattle.cs_apply.specs.Meeting.{blank}
 use Rattle.cs_apply.specs.Numbers.{HaveNumbers, AreWaitingGroups}
-use Rattle.cs_apply.specs.Waiting.{first_of, only_change, IsTurn, IsDone, ArePlacesSoFar, IsPut, IsPutMade, IsPutWaiting, ArePlacesFound}
+use Rattle.cs_apply.specs.Waiting.{change_alone, first_of, only_change, IsTurn, IsDone, ArePlacesSoFar, IsPut, IsPutMade, IsPutWaiting, ArePlacesFound}
 use Rattle.cs_apply.specs.Woven.{weave, unmade, IsWaiting, count_waiting, made_edits, stand_in, stands_from}
 use Rattle.cs_apply.specs.declared.places.FoundPlaces.{FoundPlaces}
 use Rattle.cs_apply.specs.declared.slots.Slot.{Slot}
@@ -162,18 +162,31 @@ alone_at changes [] change is = absurd (let f = is in cc)
 alone_at changes (at ∷ []) change is = (at, refl, λ some. get_or_from_slice_get changes at change some is)
 alone_at changes (at ∷ other ∷ group) change is = absurd (let f = is in cc)
 
+-- a change that is made is alone, and all are whole
+whole_alone : (whole : Bool) (changes : List Change) (group : List ℕ) (change : Change) → change_alone whole changes group ≡ Some change
+    → (whole ≡ true) × (only_change changes group ≡ Some change)
+whole_alone false changes group change is = absurd (let f = is in cc)
+whole_alone true changes group change is = (refl, is)
+
+-- one that is made stood before one that waits
+made_before : (held : Held) (at : ℕ) (next : Slot) → slice_get (held ++ None ∷ []) at ≡ Some (Some next) → slice_get held at ≡ Some (Some next)
+made_before [] zero next found = absurd (let f = found in cc)
+made_before [] (suc at) next found = absurd (let f = found in cc)
+made_before (o ∷ held) zero next found = found
+made_before (o ∷ held) (suc at) next found = made_before held at next found
+
 of_one : (x y : ℕ) → Contains (x ∷ []) y → x ≡ y
 of_one x y (zero, less, is) = is
 of_one x y (suc k, less, is) = absurd (omega (arith, less))
 
 -- ---- all places of the groups
 
-module _ (keys : Keys) (groups : List (List ℕ)) (grouping : IsGrouping keys groups) (changes : List Change) where
+module _ (whole : Bool) (keys : Keys) (groups : List (List ℕ)) (grouping : IsGrouping keys groups) (changes : List Change) where
   abbrev group_at : ℕ → List ℕ
   group_at place = get_or groups place []
 
   pub started : (read : Slot → Type 0) (places : FoundPlaces) → places.made ≡ [] → places.slots ≡ [] → places.stand_ins.items ≡ []
-      → places.groups.items ≡ [] → ArePlacesSoFar keys groups changes read 0 places
+      → places.groups.items ≡ [] → ArePlacesSoFar whole keys groups changes read 0 places
   started read places made slots stand_ins none = record {
     held = [];
     long = refl;
@@ -185,6 +198,7 @@ module _ (keys : Keys) (groups : List (List ℕ)) (grouping : IsGrouping keys gr
     done = λ place less. absurd (omega (arith, less));
     as_many = ap length none ∙ sym (ap length slots);
     groups_wait = λ number less. absurd (omega (arith, less, ap length none));
+    all_wait = λ no place next found. let f = found in cc;
   }
 
   next_heads : (count : ℕ) → count < length groups
@@ -200,14 +214,14 @@ module _ (keys : Keys) (groups : List (List ℕ)) (grouping : IsGrouping keys gr
   stays_done held more place (inr (number, stand_ins)) = inr (number, waiting_left held more place number stand_ins)
 
   module _ (read more : Slot → Type 0) (still : (slot : Slot) → read slot → more slot) (count : ℕ) (slot : Slot) (old new : FoundPlaces) (less : count < length groups)
-      (so_far : ArePlacesSoFar keys groups changes read count old) (here : IsSlotAt (key_at keys (first_of (group_at count))) slot) (is_read : more slot) where
+      (so_far : ArePlacesSoFar whole keys groups changes read count old) (here : IsSlotAt (key_at keys (first_of (group_at count))) slot) (is_read : more slot) where
     slots_before : AreSlots (heads keys (map first_of (take (count + 1) groups))) (weave (unmade so_far.held) old.slots ++ slot ∷ [])
     slots_before = rw (next_heads count less) (slot_more (heads keys (map first_of (take count groups))) (weave (unmade so_far.held) old.slots) _ slot so_far.slots here)
 
     read_before : AllByRecursion more (weave (unmade so_far.held) old.slots ++ slot ∷ [])
     read_before = all_push more (weave (unmade so_far.held) old.slots) slot (all_more read more still _ so_far.as_read) is_read
 
-    one_made : IsPutMade (only_change changes (group_at count)) slot old new → ArePlacesSoFar keys groups changes more (count + 1) new
+    one_made : IsPutMade (change_alone whole changes (group_at count)) slot old new → ArePlacesSoFar whole keys groups changes more (count + 1) new
     one_made put =
         let held = so_far.held ++ Some put.made_at.next ∷ [] in
         let woven : weave (unmade held) new.slots ≡ weave (unmade so_far.held) old.slots ++ slot ∷ [] =
@@ -224,18 +238,21 @@ module _ (keys : Keys) (groups : List (List ℕ)) (grouping : IsGrouping keys gr
           as_many = ap length put.made_at.edit.groups ∙ (so_far.as_many ∙ ap length (sym put.made_at.edit.slots));
           groups_wait = λ number inside. rw put.made_at.edit.groups
               (waiting_left so_far.held (Some put.made_at.next ∷ []) _ number (so_far.groups_wait number (omega (arith, inside, ap length put.made_at.edit.groups))));
+          all_wait = λ no place next found.
+              let is = (whole_alone whole changes (group_at count) put.change put.alone_is).0 in
+              let both : true ≡ false = sym is ∙ no in cc;
         }
       where
-        made_done : (put : IsPutMade (only_change changes (group_at count)) slot old new) (place : ℕ) → (place < count) ⊎ (place ≡ count)
+        made_done : (put : IsPutMade (change_alone whole changes (group_at count)) slot old new) (place : ℕ) → (place < count) ⊎ (place ≡ count)
             → IsDone (so_far.held ++ Some put.made_at.next ∷ []) changes place (group_at place)
         made_done put place (inl below) = stays_done so_far.held (Some put.made_at.next ∷ []) place (so_far.done place below)
         made_done put place (inr is) =
             let there : slice_get (so_far.held ++ Some put.made_at.next ∷ []) count ≡ Some (Some put.made_at.next) =
             ap (slice_get (so_far.held ++ Some put.made_at.next ∷ [])) (sym so_far.long) ∙ get_last so_far.held put.made_at.next in
-            let own = alone_at changes (group_at count) put.change put.alone_is in
+            let own = alone_at changes (group_at count) put.change (whole_alone whole changes (group_at count) put.change put.alone_is).1 in
             rw is (inl (own.0, put.made_at.next, own.1, there, λ some. rw (own.2 some) put.made_at.by))
 
-    one_waits : IsPutWaiting count slot old new → ArePlacesSoFar keys groups changes more (count + 1) new
+    one_waits : IsPutWaiting count slot old new → ArePlacesSoFar whole keys groups changes more (count + 1) new
     one_waits put =
         let held = so_far.held ++ None ∷ [] in
         let woven : weave (unmade held) new.slots ≡ weave (unmade so_far.held) old.slots ++ slot ∷ [] =
@@ -254,6 +271,7 @@ module _ (keys : Keys) (groups : List (List ℕ)) (grouping : IsGrouping keys gr
           done = λ place within. waits_done place (below_or_at place count within);
           as_many = omega (arith, one_slot, one_group, so_far.as_many);
           groups_wait = λ number inside. rw put.groups (group_waits number (below_or_at number (length old.groups.items) (omega (arith, inside, one_group))));
+          all_wait = λ no place next found. so_far.all_wait no place next (made_before so_far.held place next found);
         }
       where
         last_waits : IsWaiting (so_far.held ++ None ∷ []) count (count_waiting so_far.held)
@@ -273,14 +291,14 @@ module _ (keys : Keys) (groups : List (List ℕ)) (grouping : IsGrouping keys gr
             rw place (subst (λ (n : ℕ). IsWaiting (so_far.held ++ None ∷ []) count n) slot_number last_waits)
 
     -- one more place
-    pub one_more : IsPut count (only_change changes (group_at count)) slot old new → ArePlacesSoFar keys groups changes more (count + 1) new
+    pub one_more : IsPut count (change_alone whole changes (group_at count)) slot old new → ArePlacesSoFar whole keys groups changes more (count + 1) new
     one_more (inl put) = one_made put
     one_more (inr put) = one_waits put
 
   -- ---- all of them
 
   -- each slot's group is one, and no change is in two of them
-  pub waiting_groups : (read : Slot → Type 0) (places : FoundPlaces) → ArePlacesSoFar keys groups changes read (length groups) places
+  pub waiting_groups : (read : Slot → Type 0) (places : FoundPlaces) → ArePlacesSoFar whole keys groups changes read (length groups) places
       → length changes ≡ length keys → AreWaitingGroups groups places.groups.items (length changes)
   waiting_groups read places so_far long = record {
     within = λ k d less. rw (get_or_default places.groups.items k d 0 less) (inside k less);
@@ -296,7 +314,7 @@ module _ (keys : Keys) (groups : List (List ℕ)) (grouping : IsGrouping keys gr
           let h = waiting_below so_far.held (get_or places.groups.items number 0) number (so_far.groups_wait number less) in
           omega (arith, h, so_far.long)
 
-  module _ (long : length changes ≡ length keys) (read : Slot → Type 0) (places : FoundPlaces) (so_far : ArePlacesSoFar keys groups changes read (length groups) places)
+  module _ (long : length changes ≡ length keys) (read : Slot → Type 0) (places : FoundPlaces) (so_far : ArePlacesSoFar whole keys groups changes read (length groups) places)
       (told : List (Option ℕ)) (numbered : HaveNumbers groups places.groups.items (length changes) told) where
     abbrev numbers : List ℕ
     numbers = group_numbers keys groups grouping
@@ -349,7 +367,7 @@ module _ (keys : Keys) (groups : List (List ℕ)) (grouping : IsGrouping keys gr
     own_group : (at : ℕ) → at < length changes → (get_or numbers at 0 < length groups) × Contains (group_at (get_or numbers at 0)) at
     own_group at less = in_own keys groups grouping at (omega (arith, less, long))
 
-    pub all_found : ArePlacesFound keys changes read (record { made = places.made; slots = places.slots; stand_ins = places.stand_ins; numbers = told })
+    pub all_found : ArePlacesFound whole keys changes read (record { made = places.made; slots = places.slots; stand_ins = places.stand_ins; numbers = told })
     all_found = record {
       firsts = map first_of groups;
       numbers = numbers;
@@ -372,6 +390,7 @@ module _ (keys : Keys) (groups : List (List ℕ)) (grouping : IsGrouping keys gr
             alone_in i j (get_or numbers i 0) own.1 other apart none (so_far.done (get_or numbers i 0) own.0);
         covered = λ place next found.
             let less = within_held place next found in covered_by place next less found (so_far.done place less);
+        all_wait = so_far.all_wait;
       };
       slots = rw (sym (take_all (length groups) groups (omega arith))) so_far.slots;
     }

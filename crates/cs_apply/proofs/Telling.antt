@@ -3,18 +3,19 @@ use Rattle.std.proofs.Common.{◌≡◌, ◌≤◌, ◌<◌, ◌+◌, ◌++◌, 
 use Rattle.std.specs.Prelude.{get_or}
 use Rattle.std.specs.List.{list_any}
 use Rattle.std.proofs.lemmas.Grind.{flat_map-append}
-use Rattle.std.proofs.lemmas.List.{drop_more, length-append, length-drop, length-map, map-append}
+use Rattle.std.proofs.lemmas.List.{drop_more, get_or-map, length-append, length-drop, length-map, map-append}
 use Rattle.cs_value.specs.declared.catalog.TableDef.{TableDef}
 use Rattle.cs_blob.specs.Spelling.{blob_spelling}
 use Rattle.cs_change.specs.declared.change.Change.{Change}
 use Rattle.cs_change.specs.declared.group.Group.{Group}
 use Rattle.cs_tasks.specs.Blob.{answered_group, blob_of}
 use Rattle.cs_tasks.specs.Laws.{BlobByGroups, UnansweredChange, UnansweredGroup}
-use Rattle.cs_tasks.specs.Tasks.{Task, table_of, task, tasks, tasks_at}
+use Rattle.cs_tasks.specs.Tasks.{Task, missing_in, table_of, task, tasks, tasks_at}
+use Rattle.cs_tasks.specs.declared.fit.Fit.{Fit}
 use Rattle.cs_conflict.specs.declared.conflict.Conflict.{Conflict}
 use Rattle.cs_conflict.specs.declared.conflict.Resolution.{Resolution}
-use Rattle.cs_apply.specs.Applies.{answers_of, given_list}
-use Rattle.cs_apply.specs.Steps.{RunsGroup, RunsTold, RunsWaiting, TellsStop, WaitingToStop, changes_of}
+use Rattle.cs_apply.specs.Applies.{answers_of, given_list, sized, sized_of}
+use Rattle.cs_apply.specs.Steps.{RunsGroup, RunsTold, RunsWaiting, TellsStop, WaitingToStop, changes_of, sized_all}
 use Rattle.cs_apply.specs.declared.answers.Told.{Told}
 use Rattle.cs_apply.specs.declared.fault.ApplyFault.{ApplyFault}
 use Rattle.cs_apply.specs.declared.slots.Slot.{Slot}
@@ -69,14 +70,14 @@ told_same unanswered group old now given before = record {
 
 -- ---- groups one behind another
 
-changes_again : (table : ℕ) (group : Group) (changes : List Change) → changes_of (map (task table group) changes) ≡ changes
-changes_again table group [] = refl
-changes_again table group (change ∷ changes) = ap (λ cs. change ∷ cs) (changes_again table group changes)
+changes_again : (fit : Fit) (group : Group) (changes : List Change) → changes_of (map (task fit group) changes) ≡ map (sized fit.missing) changes
+changes_again fit group [] = refl
+changes_again fit group (change ∷ changes) = ap (λ cs. sized fit.missing change ∷ cs) (changes_again fit group changes)
 
 -- a group of which a change is applied is applied whole
-whole : (place : Option ℕ) (group : Group) → 0 < length (tasks_at place group) → changes_of (tasks_at place group) ≡ group.changes
+whole : (place : Option Fit) (group : Group) → 0 < length (tasks_at place group) → changes_of (tasks_at place group) ≡ sized_all (missing_in place) group
 whole None group some = absurd (omega (arith, some))
-whole (Some table) group some = changes_again table group group.changes
+whole (Some fit) group some = changes_again fit group group.changes
 
 no_tasks : (all : List Task) → length all ≡ 0 → all ≡ []
 no_tasks [] none = refl
@@ -87,7 +88,7 @@ count_in tables group = length (tasks_at (table_of group tables) group)
 
 tasks_first : (tables : List TableDef) (group : Group) (groups : List Group)
     → changes_of (tasks tables (group ∷ groups)) ≡ changes_of (tasks_at (table_of group tables) group) ++ changes_of (tasks tables groups)
-tasks_first tables group groups = map-append (λ (t : Task). t.change) (tasks_at (table_of group tables) group) (tasks tables groups)
+tasks_first tables group groups = map-append sized_of (tasks_at (table_of group tables) group) (tasks tables groups)
 
 -- the group there of those that were lent, and those behind it
 pub group_first : (groups lent : List Group) (at : ℕ) (group : Group) → lent ≡ groups → at < length lent → group ≡ get_or lent at group
@@ -99,7 +100,18 @@ group_first groups lent at group same inside is =
 -- a group of which changes are applied has as many
 as_many : (tables : List TableDef) (group : Group) → 0 < count_in tables group → length group.changes ≡ count_in tables group
 as_many tables group some =
-    ap length (sym (whole (table_of group tables) group some)) ∙ length-map (tasks_at (table_of group tables) group) (λ (t : Task). t.change)
+    sym (length-map group.changes (sized (missing_in (table_of group tables))))
+    ∙ ap length (sym (whole (table_of group tables) group some)) ∙ length-map (tasks_at (table_of group tables) group) sized_of
+
+-- the change there, with what it misses
+pub sized_at : (missing : ℕ) (group : Group) (at : ℕ) (change : Change) → at < length group.changes → change ≡ get_or group.changes at change
+    → sized missing change ≡ get_or (sized_all missing group) at (sized missing change)
+sized_at missing group at change less is =
+    ap (sized missing) is ∙ sym (get_or-map (sized missing) group.changes at change (sized missing change) less)
+
+-- so many of those with what they miss too
+pub sized_long : (missing : ℕ) (group : Group) → length (sized_all missing group) ≡ length group.changes
+sized_long missing group = length-map group.changes (sized missing)
 
 -- what is there for all groups that are left is there for the first, and behind it for the others
 pub there_for : (tables : List TableDef) (left : List Group) (group : Group) (others : List Group) (rest : List (Option ℕ)) → left ≡ group ∷ others → length rest ≡ length (tasks tables left)
@@ -144,13 +156,17 @@ module _ {F : Type 0} (asks : F → Conflict → Resolution → F → Type 0) wh
     module _ (left : List Group) (group : Group) (others : List Group) (is : left ≡ group ∷ others) (slots : List Slot) (rest : List (Option ℕ)) (f : F) (told : Told)
         (before : HaveRun tables groups left all numbers first slots rest f told) where
       -- a group with changes that are applied
-      pub one_run : BlobByGroups → (end : List Slot) (g : F) (next : Told) → 0 < count_in tables group → length group.changes ≤ length rest → length end ≡ length slots
-          → RunsGroup asks slots group rest f told end g next
+      pub one_run : BlobByGroups → (missing : ℕ) (end : List Slot) (g : F) (next : Told) → missing ≡ missing_in (table_of group tables)
+          → 0 < count_in tables group → length group.changes ≤ length rest → length end ≡ length slots
+          → RunsGroup asks slots missing group rest f told end g next
           → HaveRun tables groups others all numbers first end (drop (count_in tables group) rest) g next
-      one_run by_groups end g next some few long (given, each, ran, answers, blob) =
-          let here = whole (table_of group tables) group some in
-          let count = as_many tables group some in
-          let behind : changes_of (tasks tables left) ≡ group.changes ++ changes_of (tasks tables others) =
+      one_run by_groups missing end g next misses some few long (given, each, ran, answers, blob) =
+          let here : changes_of (tasks_at (table_of group tables) group) ≡ sized_all missing group =
+          whole (table_of group tables) group some ∙ ap (λ n. sized_all n group) (sym misses) in
+          let many = as_many tables group some in
+          let count : length (sized_all missing group) ≡ count_in tables group = sized_long missing group ∙ many in
+          let enough : length (sized_all missing group) ≤ length rest = omega (arith, few, sized_long missing group) in
+          let behind : changes_of (tasks tables left) ≡ sized_all missing group ++ changes_of (tasks tables others) =
           ap (λ gs. changes_of (tasks tables gs)) is ∙ (tasks_first tables group others ∙ ap (λ cs. cs ++ changes_of (tasks tables others)) here) in
           record {
             given = before.given ++ given;
@@ -160,15 +176,15 @@ module _ {F : Type 0} (asks : F → Conflict → Resolution → F → Type 0) wh
                 ap (λ bytes. bytes ++ blob_spelling (blob_of tables others more)) blob
                 ∙ (append_assoc told.blob.bytes (answered_group group given) (blob_spelling (blob_of tables others more))
                 ∙ (ap (λ bytes. told.blob.bytes ++ bytes) (sym (ap (λ gs. blob_spelling (blob_of tables gs (given ++ more))) is
-                ∙ by_groups tables group others given more (each ∙ count)))
+                ∙ by_groups tables group others given more (each ∙ many)))
                 ∙ (before.blob (given ++ more) ∙ ap (λ list. blob_spelling (blob_of tables groups list)) (sym (append_assoc before.given given more)))));
             carries = λ more last h later.
                 subst (λ (list : List (Option Resolution)). RunsWaiting asks all (changes_of (tasks tables groups)) numbers first list last h) (sym (append_assoc before.given given more))
                 (before.carries (given ++ more) last h (rw behind
-                (run_on asks slots end last group.changes (changes_of (tasks tables others)) rest f g h given more few ran (rw count later))));
+                (run_on asks slots end last (sized_all missing group) (changes_of (tasks tables others)) rest f g h given more enough ran (rw count later))));
             stops = λ answer conflict last stop.
                 before.stops answer conflict last (rw behind
-                (stop_behind asks slots end group.changes (changes_of (tasks tables others)) rest f g last given answer conflict few ran (rw count stop)));
+                (stop_behind asks slots end (sized_all missing group) (changes_of (tasks tables others)) rest f g last given answer conflict enough ran (rw count stop)));
           }
 
       -- one without
@@ -191,15 +207,18 @@ module _ {F : Type 0} (asks : F → Conflict → Resolution → F → Type 0) wh
           }
 
       -- a stop among its changes
-      pub run_stopped : (last : F) (why : ApplyFault) → 0 < count_in tables group → length group.changes ≤ length rest
-          → TellsStop (WaitingToStop asks slots group.changes rest f last) why
+      pub run_stopped : (missing : ℕ) (last : F) (why : ApplyFault) → missing ≡ missing_in (table_of group tables)
+          → 0 < count_in tables group → length group.changes ≤ length rest
+          → TellsStop (WaitingToStop asks slots (sized_all missing group) rest f last) why
           → TellsStop (WaitingToStop asks all (changes_of (tasks tables groups)) numbers first last) why
-      run_stopped last why some few stopped =
-          let here = whole (table_of group tables) group some in
-          let behind : changes_of (tasks tables left) ≡ group.changes ++ changes_of (tasks tables others) =
+      run_stopped missing last why misses some few stopped =
+          let here : changes_of (tasks_at (table_of group tables) group) ≡ sized_all missing group =
+          whole (table_of group tables) group some ∙ ap (λ n. sized_all n group) (sym misses) in
+          let enough : length (sized_all missing group) ≤ length rest = omega (arith, few, sized_long missing group) in
+          let behind : changes_of (tasks tables left) ≡ sized_all missing group ++ changes_of (tasks tables others) =
           ap (λ gs. changes_of (tasks tables gs)) is ∙ (tasks_first tables group others ∙ ap (λ cs. cs ++ changes_of (tasks tables others)) here) in
           told_carried asks slots all (changes_of (tasks tables left)) (changes_of (tasks tables groups)) rest numbers f first last why before.stops
-          (rw behind (told_before asks slots group.changes (changes_of (tasks tables others)) rest f last why few stopped))
+          (rw behind (told_before asks slots (sized_all missing group) (changes_of (tasks tables others)) rest f last why enough stopped))
 
     -- no group is left
     pub all_run : (slots : List Slot) (rest : List (Option ℕ)) (f : F) (told : Told) → HaveRun tables groups [] all numbers first slots rest f told

@@ -16,12 +16,13 @@ use Rattle.cs_conflict.specs.Laws.{KindTells}
 use Rattle.cs_conflict.specs.declared.conflict.Conflict.{Conflict}
 use Rattle.cs_conflict.specs.declared.conflict.Resolution.{Resolution}
 use Rattle.cs_conflict.specs.declared.conflict.Resolution.TheVariants.{Abort}
-use Rattle.cs_apply.specs.Applies.{IsConflictOf, Applies, Stops, answers_of}
+use Rattle.cs_conflict.specs.Narrow.{padded_at}
+use Rattle.cs_apply.specs.Applies.{IsConflictOf, Applies, SizedChange, Stops, action_at, answers_of, sized_of}
 use Rattle.cs_apply.specs.Laws.{DefinedAsksNothing, DefinedIsNotStopped, UnaskedIsDefined, StopsAtAChange, AlwaysAborts, AbortingIsApplied, AbortingIsRefused}
-use Rattle.cs_apply.specs.NormalTasks.{spot_of, HaveOwnPlaces, found_at, found_is, each_found, IsKnown, all_known, shown_key, shown_on, of_one, keyed_tasks, tasks_are, are_apart, AreUntouched, untouched, same_at_first, elsewhere_too, stays}
+use Rattle.cs_apply.specs.NormalTasks.{spot_of, HaveOwnPlaces, found_at, found_is, each_found, IsKnown, all_known, are_whole, shown_key, shown_on, of_one, keyed_tasks, tasks_are, are_apart, AreUntouched, untouched, same_at_first, elsewhere_too, stays}
 use Rattle.cs_apply.specs.Shown.{IsConflictIn}
 use Rattle.cs_apply.specs.Spots.{same_spot, spot_is, spot_not}
-use Rattle.cs_tasks.specs.Tasks.{Task, tasks}
+use Rattle.cs_tasks.specs.Tasks.{AreWhole, Task, tasks}
 use Rattle.cs_apply.proofs.Quiet.{AreNone, no_answers}
 
 none_given : (given : List (Option Resolution)) → answers_of given ≡ [] → AreNone given
@@ -35,47 +36,50 @@ same_place state name key other bytes is =
 
 -- each change is defined where it stood at first
 abbrev AreDefined : State → List Task → Type 0
-AreDefined before all = AllByRecursion (λ (t : Task). (end : Place) × (after (action t.change) (before t.name t.key) ≡ Some end)) all
+AreDefined before all = AllByRecursion (λ (t : Task). (end : Place) × (after (action_at (sized_of t) (before t.name t.key)) (before t.name t.key) ≡ Some end)) all
 
 some_left : (o : Option Place) → IsSome o → (end : Place) × (o ≡ Some end)
 some_left (Some end) is = (end, refl)
 some_left None is = absurd (let e = is in cc)
 
 -- a changeset that is defined leaves something at the place of each of its changes
-each_defined : (before : State) (normal : List TableChanges) (all some : List Task) → ((name key : List ℕ) → found_at (name, key) all ≡ change_of name key normal)
+each_defined : (before : State) (normal : List TableChanges) (all some : List Task) → AreWhole some → ((name key : List ℕ) → found_at (name, key) all ≡ change_of name key normal)
     → ((name key : List ℕ) → IsSome (left_at normal before name key))
     → AllByRecursion (λ (t : Task). found_at (spot_of t) all ≡ Some t.change) some → AreDefined before some
-each_defined before normal all [] is defined found = tt
-each_defined before normal all (t ∷ some) is defined found =
+each_defined before normal all [] whole is defined found = tt
+each_defined before normal all (t ∷ some) whole is defined found =
     let here : change_of t.name t.key normal ≡ Some t.change = sym (is t.name t.key) ∙ found.0 in
     let left : left_at normal before t.name t.key ≡ after (action t.change) (before t.name t.key) = ap (λ (o : Option Change). after_any (action_any o) (before t.name t.key)) here in
-    (some_left (after (action t.change) (before t.name t.key)) (subst (λ (o : Option Place). IsSome o) left (defined t.name t.key)), each_defined before normal all some is defined found.1)
+    let same : left_at normal before t.name t.key ≡ after (action_at (sized_of t) (before t.name t.key)) (before t.name t.key) =
+    left ∙ ap (λ (n : ℕ). after (padded_at n (action t.change) (before t.name t.key)) (before t.name t.key)) (sym whole.0) in
+    (some_left (after (action_at (sized_of t) (before t.name t.key)) (before t.name t.key)) (subst (λ (o : Option Place). IsSome o) same (defined t.name t.key)), each_defined before normal all some whole.1 is defined found.1)
 
 module _ {F : Type 0} (asks : F → Conflict → Resolution → F → Type 0) where
   -- where nothing is asked, each place is left by the change of it alone
-  left_quiet : (name key : List ℕ) (all : List Task) (given : List (Option Resolution)) (before end : State) (f g : F) → HaveOwnPlaces all → AreNone given
+  left_quiet : (name key : List ℕ) (all : List Task) (given : List (Option Resolution)) (before end : State) (f g : F) → AreWhole all → HaveOwnPlaces all → AreNone given
       → Applies asks before all f given end g → after_any (action_any (found_at (name, key) all)) (before name key) ≡ Some (end name key)
   unfolding Applies found_at
-  left_quiet name key [] given before end f g apart none run = ap (λ (p : Place). Some p) (sym (run.0 name key))
-  left_quiet name key (t ∷ all) [] before end f g apart none run = absurd run
-  left_quiet name key (t ∷ all) (Some answer ∷ given) before end f g apart none run = absurd (let e = none.0 in cc)
-  left_quiet name key (t ∷ all) (None ∷ given) before end f g apart none (middle, between, one, rest) =
+  left_quiet name key [] given before end f g whole apart none run = ap (λ (p : Place). Some p) (sym (run.0 name key))
+  left_quiet name key (t ∷ all) [] before end f g whole apart none run = absurd run
+  left_quiet name key (t ∷ all) (Some answer ∷ given) before end f g whole apart none run = absurd (let e = none.0 in cc)
+  left_quiet name key (t ∷ all) (None ∷ given) before end f g whole apart none (middle, between, one, rest) =
       by_test (same_spot (name, key) (spot_of t)) _
       (λ test. let is = spot_is (name, key) (spot_of t) test in
       let kept = stays asks name key all given middle end between g (elsewhere_too name key t all is apart.0) rest in
       let here : after (action t.change) (before name key) ≡ Some (end name key) =
-      ap (after (action t.change)) (sym (same_place before name key t.name t.key is)) ∙ (one.0.1
+      ap (after (action t.change)) (sym (same_place before name key t.name t.key is))
+      ∙ (ap (λ (n : ℕ). after (padded_at n (action t.change) (before t.name t.key)) (before t.name t.key)) (sym whole.0) ∙ one.0.1
       ∙ ap (λ (p : Place). Some p) (same_place middle name key t.name t.key is ∙ sym kept)) in
       simp test here)
-      (λ test. let later = left_quiet name key all given middle end between g apart.1 none.1 rest in
+      (λ test. let later = left_quiet name key all given middle end between g whole.1 apart.1 none.1 rest in
       let kept = one.1 name key (spot_not (name, key) (spot_of t) test) in
       simp test (ap (after_any (action_any (found_at (name, key) all))) (sym kept) ∙ later))
 
   module _ (tells : KindTells) where
     -- a change that is defined is made, and has no conflict
-    no_conflict : (table : ℕ) (change : Change) (place now last : Place) (c : Conflict) → now ≡ place → after (action change) place ≡ Some last → IsConflictOf table change now c → ⊥
+    no_conflict : (table : ℕ) (change : SizedChange) (place now last : Place) (c : Conflict) → now ≡ place → after (action_at change place) place ≡ Some last → IsConflictOf table change now c → ⊥
     no_conflict table change place now last c same defined is =
-        let none = (tells (action change) now).1 (last, ap (after (action change)) same ∙ defined) in
+        let none = (tells (action_at change now) now).1 (last, ap (λ (p : Place). after (action_at change p) p) same ∙ defined) in
         let some = is.of_kind in
         cc
 
@@ -85,7 +89,7 @@ module _ {F : Type 0} (asks : F → Conflict → Resolution → F → Type 0) wh
     none_asked before now end [] given f g apart same defined run = (subst (λ (gs : List (Option Resolution)). AreNone gs) (sym run.1) tt, run.2)
     none_asked before now end (t ∷ all) [] f g apart same defined run = absurd run
     none_asked before now end (t ∷ all) (Some answer ∷ given) f g apart same defined (middle, between, one, rest) =
-        absurd (no_conflict t.table t.change (before t.name t.key) (now t.name t.key) defined.0.0 one.0.0 same.0 defined.0.1 one.0.1)
+        absurd (no_conflict t.table (sized_of t) (before t.name t.key) (now t.name t.key) defined.0.0 one.0.0 same.0 defined.0.1 one.0.1)
     none_asked before now end (t ∷ all) (None ∷ given) f g apart same defined (middle, between, one, rest) =
         let more = none_asked before middle end all given between g apart.1 (untouched before now middle t all apart.0 one.1 same.1) defined.1 rest in
         ((refl, more.0), more.1 ∙ one.0.2)
@@ -95,7 +99,7 @@ module _ {F : Type 0} (asks : F → Conflict → Resolution → F → Type 0) wh
     unfolding Stops
     not_stopped before now [] given answer c f g apart same defined run = run
     not_stopped before now (t ∷ all) [] answer c f g apart same defined run =
-        no_conflict t.table t.change (before t.name t.key) (now t.name t.key) defined.0.0 c same.0 defined.0.1 run.0
+        no_conflict t.table (sized_of t) (before t.name t.key) (now t.name t.key) defined.0.0 c same.0 defined.0.1 run.0
     not_stopped before now (t ∷ all) (o ∷ given) answer c f g apart same defined (middle, between, one, rest) =
         not_stopped before middle all given answer c between g apart.1 (untouched before now middle t all apart.0 one.1 same.1) defined.1 rest
 
@@ -124,8 +128,8 @@ module _ {F : Type 0} (asks : F → Conflict → Resolution → F → Type 0) wh
   none_applied aborts before end (t ∷ all) (None ∷ given) f g (middle, between, one, rest) = (refl, none_applied aborts middle end all given between g rest)
   none_applied aborts before end (t ∷ all) (Some answer ∷ given) f g (middle, between, one, rest) =
       let is = aborts f one.0.0 answer between one.0.2 in
-      let goes : answered Abort (action t.change) (before t.name t.key) ≡ Some (middle t.name t.key) =
-      ap (λ (a : Resolution). answered a (action t.change) (before t.name t.key)) (sym is) ∙ one.0.3 in
+      let goes : answered Abort (action_at (sized_of t) (before t.name t.key)) (before t.name t.key) ≡ Some (middle t.name t.key) =
+      ap (λ (a : Resolution). answered a (action_at (sized_of t) (before t.name t.key)) (before t.name t.key)) (sym is) ∙ one.0.3 in
       absurd (let e = goes in cc)
 
   stopped_by : AlwaysAborts asks → (before : State) (all : List Task) (given : List (Option Resolution)) (answer : Resolution) (c : Conflict) (f g : F) → Stops asks before all f given answer c g → answer ≡ Abort
@@ -155,16 +159,19 @@ module _ {F : Type 0} (asks : F → Conflict → Resolution → F → Type 0) wh
     apart : HaveOwnPlaces all
     apart = are_apart tables normal is
 
+    whole : AreWhole all
+    whole = are_whole tables all (all_known tables normal (of_one tables normal fits) is)
+
     found : (name key : List ℕ) → found_at (name, key) all ≡ change_of name key normal
     found name key = found_is tables name key normal is
 
     defined : (before : State) → ((name key : List ℕ) → IsSome (left_at normal before name key)) → AreDefined before all
-    defined before somewhere = each_defined before normal all all found somewhere (each_found all apart)
+    defined before somewhere = each_defined before normal all all whole found somewhere (each_found all apart)
 
     leaves : (before end : State) (f g : F) (given : List (Option Resolution)) → AreNone given → Applies asks before all f given end g
         → (name key : List ℕ) → left_at normal before name key ≡ Some (end name key)
     leaves before end f g given none run name key =
-        ap (λ (o : Option Change). after_any (action_any o) (before name key)) (sym (found name key)) ∙ left_quiet asks name key all given before end f g apart none run
+        ap (λ (o : Option Change). after_any (action_any o) (before name key)) (sym (found name key)) ∙ left_quiet asks name key all given before end f g whole apart none run
 
   pub unasked_is_defined : UnaskedIsDefined asks
   unasked_is_defined tables normal before end f g given is fits run nothing =

@@ -4,10 +4,13 @@ use Rattle.std.specs.Prelude.{slice_get, slice_set}
 use Rattle.std.proofs.lemmas.List.{length-set}
 use Rattle.std.proofs.lemmas.Option.{same_Some}
 use Rattle.cs_value.specs.Facts.{by_test}
-use Rattle.cs_change.specs.declared.change.Change.{Change}
+use Rattle.cs_change.specs.Action.{action, after}
 use Rattle.cs_conflict.specs.declared.conflict.Conflict.{Conflict}
 use Rattle.cs_conflict.specs.declared.conflict.Resolution.{Resolution}
-use Rattle.cs_apply.specs.Meeting.{blank}
+use Rattle.cs_conflict.specs.Conflict.{kind}
+use Rattle.cs_conflict.specs.Narrow.{padded_at}
+use Rattle.cs_apply.specs.Applies.{SizedChange, action_at}
+use Rattle.cs_apply.specs.Meeting.{IsMadeBy, blank}
 use Rattle.cs_apply.specs.Slots.{standing}
 use Rattle.cs_apply.specs.Steps.{RunsOne, RunStops, WaitsOne, WaitStops, Runs, RunsStop, RunsWaiting, WaitingStop}
 use Rattle.cs_apply.specs.Waiting.{IsTurn}
@@ -158,26 +161,39 @@ not_lone (n ∷ numbers) (Some k ∷ waiting) place apart =
 
 -- ---- the changes
 
+-- the same of a change that may miss columns: it makes its place only where it misses none
+abbrev pub IsTurnOf : Held → SizedChange → ℕ → Option ℕ → Type 0
+IsTurnOf held change place None = IsTurn held change.change place None × (change.missing ≡ 0)
+IsTurnOf held change place (Some number) = IsWaiting held place number
+
+-- one that misses none does what it does
+made_whole : (change : SizedChange) (next : Slot) → change.missing ≡ 0 → IsMadeBy change.change next
+    → (kind (action_at change next.keyed.1) next.keyed.1 ≡ None) × (after (action_at change next.keyed.1) next.keyed.1 ≡ Some (standing next))
+made_whole change next none by =
+    let same : action_at change next.keyed.1 ≡ action change.change = ap (λ n. padded_at n (action change.change) next.keyed.1) none in
+    rw same by
+
 module _ {F : Type 0} (asks : F → Conflict → Resolution → F → Type 0) (held : Held) where
   -- the slots of all places, where these changes are still to come
   abbrev pub before : List ℕ → List (Option ℕ) → List Slot → List Slot
   before numbers waiting slots = weave (masked (lone numbers waiting) held) slots
 
-  abbrev Turns : List Change → List ℕ → List (Option ℕ) → Type 0
+  abbrev Turns : List SizedChange → List ℕ → List (Option ℕ) → Type 0
   Turns changes numbers waiting =
-      (at : ℕ) (some : Change) → at < length changes → IsTurn held (get_or changes at some) (get_or numbers at 0) (get_or waiting at None)
+      (at : ℕ) (some : SizedChange) → at < length changes → IsTurnOf held (get_or changes at some) (get_or numbers at 0) (get_or waiting at None)
 
-  abbrev AreAlone : List Change → List ℕ → List (Option ℕ) → Type 0
+  abbrev AreAlone : List SizedChange → List ℕ → List (Option ℕ) → Type 0
   AreAlone changes numbers waiting =
       (i j : ℕ) → i < length changes → j < length changes → i ≢ j → get_or waiting i None ≡ None → get_or numbers i 0 ≢ get_or numbers j 0
 
   -- one of them
-  one_woven : (slots middle : List Slot) (c : Change) (n : ℕ) (k : Option ℕ) (ns : List ℕ) (ks : List (Option ℕ)) (f g : F) (given : Option Resolution)
-      → count_waiting held ≡ length slots → IsTurn held c n k → (k ≡ None → lone ns ks n ≡ false)
+  one_woven : (slots middle : List Slot) (c : SizedChange) (n : ℕ) (k : Option ℕ) (ns : List ℕ) (ks : List (Option ℕ)) (f g : F) (given : Option Resolution)
+      → count_waiting held ≡ length slots → IsTurnOf held c n k → (k ≡ None → lone ns ks n ≡ false)
       → WaitsOne asks slots k c f given middle g
       → RunsOne asks (before (n ∷ ns) (k ∷ ks) slots) n c f given (before ns ks middle) g
-  one_woven slots middle c n None ns ks f g given count turn apart one =
+  one_woven slots middle c n None ns ks f g given count (turn, whole) apart one =
       let next = turn.0 in
+      let by = made_whole c next whole turn.2 in
       let p : ℕ → Bool = lone (n ∷ ns) (None ∷ ks) in
       let here : p n ≡ true = rw (eq-eqb n n refl) refl in
       let others : (at : ℕ) → at ≢ n → p at ≡ lone ns ks at =
@@ -189,7 +205,7 @@ module _ {F : Type 0} (asks : F → Conflict → Resolution → F → Type 0) (h
         made_get p held slots n next count turn.1 here,
         made_set p (lone ns ks) held slots n next count turn.1 (apart refl) others,
         record { table = refl; key = refl; before = refl; stands = refl },
-        (turn.2.0, turn.2.1, refl),
+        (by.0, by.1, refl),
       )
   one_woven slots middle c n (Some k) ns ks f g given count turn apart one =
       let stand_ins = masked_waits (lone ns ks) held n k turn in (
@@ -202,25 +218,25 @@ module _ {F : Type 0} (asks : F → Conflict → Resolution → F → Type 0) (h
         one.6,
       )
 
-  as_many : (slots middle : List Slot) (c : Change) (k : Option ℕ) (f g : F) (given : Option Resolution)
+  as_many : (slots middle : List Slot) (c : SizedChange) (k : Option ℕ) (f g : F) (given : Option Resolution)
       → WaitsOne asks slots k c f given middle g → length middle ≡ length slots
   as_many slots middle c None f g given one = ap length one.0
   as_many slots middle c (Some k) f g given one = ap length one.4 ∙ length-set slots k one.1
 
-  tail_turns : (c : Change) (cs : List Change) (n : ℕ) (ns : List ℕ) (k : Option ℕ) (ks : List (Option ℕ)) → Turns (c ∷ cs) (n ∷ ns) (k ∷ ks) → Turns cs ns ks
+  tail_turns : (c : SizedChange) (cs : List SizedChange) (n : ℕ) (ns : List ℕ) (k : Option ℕ) (ks : List (Option ℕ)) → Turns (c ∷ cs) (n ∷ ns) (k ∷ ks) → Turns cs ns ks
   tail_turns c cs n ns k ks turns = λ at some less. turns (suc at) some (omega (arith, less))
 
-  tail_alone : (c : Change) (cs : List Change) (n : ℕ) (ns : List ℕ) (k : Option ℕ) (ks : List (Option ℕ)) → AreAlone (c ∷ cs) (n ∷ ns) (k ∷ ks) → AreAlone cs ns ks
+  tail_alone : (c : SizedChange) (cs : List SizedChange) (n : ℕ) (ns : List ℕ) (k : Option ℕ) (ks : List (Option ℕ)) → AreAlone (c ∷ cs) (n ∷ ns) (k ∷ ks) → AreAlone cs ns ks
   tail_alone c cs n ns k ks alone = λ i j il jl apart none.
       alone (suc i) (suc j) (omega (arith, il)) (omega (arith, jl)) (λ e. apart (omega (arith, e))) none
 
-  head_alone : (c : Change) (cs : List Change) (n : ℕ) (ns : List ℕ) (k : Option ℕ) (ks : List (Option ℕ)) → length ns ≡ length cs
+  head_alone : (c : SizedChange) (cs : List SizedChange) (n : ℕ) (ns : List ℕ) (k : Option ℕ) (ks : List (Option ℕ)) → length ns ≡ length cs
       → AreAlone (c ∷ cs) (n ∷ ns) (k ∷ ks) → k ≡ None → lone ns ks n ≡ false
   head_alone c cs n ns k ks long alone none =
       not_lone ns ks n (λ at less. alone 0 (suc at) (omega arith) (omega (arith, less, long)) (λ e. absurd (omega (arith, e))) none)
 
   -- all of them
-  pub all_woven : (cs : List Change) (ns : List ℕ) (ks : List (Option ℕ)) (slots end : List Slot) (f g : F) (given : List (Option Resolution))
+  pub all_woven : (cs : List SizedChange) (ns : List ℕ) (ks : List (Option ℕ)) (slots end : List Slot) (f g : F) (given : List (Option Resolution))
       → count_waiting held ≡ length slots → length ns ≡ length cs → length ks ≡ length cs → Turns cs ns ks → AreAlone cs ns ks
       → RunsWaiting asks slots cs ks f given end g → Runs asks (before ns ks slots) cs ns f given (weave held end) g
   unfolding Runs RunsWaiting
@@ -236,15 +252,15 @@ module _ {F : Type 0} (asks : F → Conflict → Resolution → F → Type 0) (h
       let later = all_woven cs ns ks runs.0 end runs.1 g others (count ∙ sym same) (omega (arith, long)) (omega (arith, long2)) (tail_turns c cs n ns k ks turns) (tail_alone c cs n ns k ks alone) runs.3 in
       (before ns ks runs.0, runs.1, one, later)
 
-  stop_woven : (slots : List Slot) (c : Change) (n : ℕ) (k : Option ℕ) (ns : List ℕ) (ks : List (Option ℕ)) (f g : F) (answer : Resolution) (conflict : Conflict)
-      → IsTurn held c n k → WaitStops asks slots k c f g answer conflict
+  stop_woven : (slots : List Slot) (c : SizedChange) (n : ℕ) (k : Option ℕ) (ns : List ℕ) (ks : List (Option ℕ)) (f g : F) (answer : Resolution) (conflict : Conflict)
+      → IsTurnOf held c n k → WaitStops asks slots k c f g answer conflict
       → RunStops asks (before (n ∷ ns) (k ∷ ks) slots) n c f g answer conflict
   stop_woven slots c n None ns ks f g answer conflict turn stops = absurd stops
   stop_woven slots c n (Some k) ns ks f g answer conflict turn stops =
       (stops.0, woven_get (masked (lone ns ks) held) slots n k stops.0 (masked_waits (lone ns ks) held n k turn) stops.1, stops.2)
 
   -- those up to a stop
-  pub stops_woven : (cs : List Change) (ns : List ℕ) (ks : List (Option ℕ)) (slots : List Slot) (f g : F) (given : List (Option Resolution)) (answer : Resolution) (conflict : Conflict)
+  pub stops_woven : (cs : List SizedChange) (ns : List ℕ) (ks : List (Option ℕ)) (slots : List Slot) (f g : F) (given : List (Option Resolution)) (answer : Resolution) (conflict : Conflict)
       → count_waiting held ≡ length slots → length ns ≡ length cs → length ks ≡ length cs → Turns cs ns ks → AreAlone cs ns ks
       → WaitingStop asks slots cs ks f given g answer conflict → RunsStop asks (before ns ks slots) cs ns f given g answer conflict
   unfolding RunsStop WaitingStop

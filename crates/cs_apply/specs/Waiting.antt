@@ -1,5 +1,5 @@
 -- What is found at the places of changes: which of them are made at once, and which wait.
-use Rattle.std.specs.Prelude.{◌≡◌, ◌≢◌, ◌<◌, ◌⊎◌, ℕ, List, [], ◌∷◌, ◌++◌, length, map, take, Option, Some, None, slice_get, slice_index_or}
+use Rattle.std.specs.Prelude.{◌≡◌, ◌≢◌, ◌<◌, ◌⊎◌, ℕ, Bool, true, false, List, [], ◌∷◌, ◌++◌, length, map, take, Option, Some, None, slice_get, slice_index_or}
 use Rattle.std.specs.List.{AllByRecursion}
 use Rattle.cs_change.specs.declared.change.Change.{Change}
 use Rattle.cs_order.specs.Order.{Keys}
@@ -21,8 +21,9 @@ abbrev pub IsTurn : List (Option Slot) → Change → ℕ → Option ℕ → Typ
 IsTurn held change place None = (next : Slot) × (slice_get held place ≡ Some (Some next)) × IsMadeBy change next
 IsTurn held change place (Some number) = IsWaiting held place number
 
--- the places in order and those that wait: what comes of each change, where these are the numbers of their places
-pub record ArePlaces (changes : List Change) (numbers : List ℕ) (read : Slot → Type 0) (places : Places) : Type 0 where
+-- the places in order and those that wait: what comes of each change, where these are the numbers of their places. Where it isn't
+-- known that the changes are whole, all wait
+pub record ArePlaces (whole : Bool) (changes : List Change) (numbers : List ℕ) (read : Slot → Type 0) (places : Places) : Type 0 where
   pub held : List (Option Slot)
   pub counted : count_waiting held ≡ length places.slots
   pub made : places.made ≡ made_edits held
@@ -38,6 +39,7 @@ pub record ArePlaces (changes : List Change) (numbers : List ℕ) (read : Slot �
   -- each place that is made is made by a change
   pub covered : (place : ℕ) (next : Slot) → slice_get held place ≡ Some (Some next)
       → (at : ℕ) × (at < length changes) × (slice_index_or places.numbers at None ≡ None) × (slice_index_or numbers at 0 ≡ place)
+  pub all_wait : whole ≡ false → (place : ℕ) (next : Slot) → slice_get held place ≡ Some (Some next) → ⊥
 
 -- what has come of the changes of one place
 abbrev pub IsDone : List (Option Slot) → List Change → ℕ → List ℕ → Type 0
@@ -47,7 +49,7 @@ IsDone held changes place group =
     ⊎ ((number : ℕ) × IsWaiting held place number)
 
 -- the same, as far as so many of the groups, when no change has the number of its slot yet
-pub record ArePlacesSoFar (keys : Keys) (groups : List (List ℕ)) (changes : List Change) (read : Slot → Type 0) (count : ℕ) (places : FoundPlaces) : Type 0 where
+pub record ArePlacesSoFar (whole : Bool) (keys : Keys) (groups : List (List ℕ)) (changes : List Change) (read : Slot → Type 0) (count : ℕ) (places : FoundPlaces) : Type 0 where
   pub held : List (Option Slot)
   pub long : length held ≡ count
   pub counted : count_waiting held ≡ length places.slots
@@ -59,6 +61,7 @@ pub record ArePlacesSoFar (keys : Keys) (groups : List (List ℕ)) (changes : Li
   -- each slot has the number of its group
   pub as_many : length places.groups.items ≡ length places.slots
   pub groups_wait : (number : ℕ) → number < length places.groups.items → IsWaiting held (slice_index_or places.groups.items number 0) number
+  pub all_wait : whole ≡ false → (place : ℕ) (next : Slot) → slice_get held place ≡ Some (Some next) → ⊥
 
 -- the edit, if there is one, is behind the others
 pub record HasEdit (edit : Option BodyEdit) (old new : FoundPlaces) : Type 0 where
@@ -71,6 +74,11 @@ pub record HasEdit (edit : Option BodyEdit) (old new : FoundPlaces) : Type 0 whe
 abbrev pub only_change : List Change → List ℕ → Option Change
 only_change changes (at ∷ []) = slice_get changes at
 only_change changes _ = None
+
+-- the same, where the changes are whole
+abbrev pub change_alone : Bool → List Change → List ℕ → Option Change
+change_alone false changes group = None
+change_alone true changes group = only_change changes group
 
 -- a change is made at a place that the store has as this slot, and the edit of what it leaves is behind the others
 pub record IsMadeAt (change : Change) (slot : Slot) (old new : FoundPlaces) : Type 0 where
@@ -96,9 +104,9 @@ abbrev pub IsPut : ℕ → Option Change → Slot → FoundPlaces → FoundPlace
 IsPut group alone slot old new = IsPutMade alone slot old new ⊎ IsPutWaiting group slot old new
 
 -- the places of keys, with what comes of the change of each
-pub record ArePlacesFound (keys : Keys) (changes : List Change) (read : Slot → Type 0) (places : Places) : Type 0 where
+pub record ArePlacesFound (whole : Bool) (keys : Keys) (changes : List Change) (read : Slot → Type 0) (places : Places) : Type 0 where
   pub firsts : List ℕ
   pub numbers : List ℕ
   pub numbering : IsNumbering keys firsts numbers
-  pub found : ArePlaces changes numbers read places
+  pub found : ArePlaces whole changes numbers read places
   pub slots : AreSlots (heads keys firsts) (weave (unmade found.held) places.slots)

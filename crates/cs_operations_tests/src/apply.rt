@@ -11,7 +11,7 @@ use cs_normal::Normal;
 use cs_normalising::normalise;
 use cs_store::{RowStore, Trip};
 use cs_store_cases::{Edit, are_edits, commit_of, shows};
-use cs_tasks::{BlobBuf, Tasks, TasksFault, count_of, find_tasks};
+use cs_tasks::{BlobBuf, Tasks, TasksFault, find_tasks, sizes_of};
 use cs_value::{Catalog, Items, Memory, TableDef, Text};
 use std::alloc::Global;
 
@@ -22,12 +22,14 @@ fn table(alloc: Global, name: &str, marks: &[bool]) -> Result<TableDef, Memory> 
     })
 }
 
-/// The tables `t1(a key, b)`, `t2(a key, b, c, d)` and `t3(a, b key)`.
+/// The tables `t1(a key, b)`, `t2(a key, b, c, d)`, `t3(a, b key)`, `t4(a key, b, c)` and `t5(a key, b, c key)`.
 fn catalog(alloc: Global) -> Result<Option<Catalog>, Memory> {
     let mut tables = Vec::new(alloc);
     tables.push(table(alloc, "t1", &[true, false])?)?;
     tables.push(table(alloc, "t2", &[true, false, false, false])?)?;
     tables.push(table(alloc, "t3", &[false, true])?)?;
+    tables.push(table(alloc, "t4", &[true, false, false])?)?;
+    tables.push(table(alloc, "t5", &[true, false, true])?)?;
     Ok(Catalog::new(tables).ok())
 }
 
@@ -121,6 +123,9 @@ fn is_applied(
         && are_answers(applied.answers.as_slice(), answers)
         && applied.skipped == skipped
 }
+
+/// The row (1, 'v1', 'c') of `t4`.
+const WIDE_ROW: &[u8] = b"\x01\0\0\0\0\0\0\0\x01\x03\x02v1\x03\x01c";
 
 /// Rows that stand in a store, a changeset, the answers to its conflicts, and the kinds of the first two. Then the edits that are to be
 /// written, the blob, and how many groups are skipped.
@@ -232,6 +237,122 @@ const CASES: &[Case<'static>] = &[
         edits: &[(0, ONE, Some(b"\x01\0\0\0\0\0\0\0\x01\x03\x02v2"))],
         blob: b"\x54\x02\0\x01t3\0\x12\0\x03\x02v2\x01\0\0\0\0\0\0\0\x01",
         skipped: 0,
+    },
+    // Groups with the first two of three columns. An INSERT has NULL in the third, made at once and over a row.
+    Case {
+        rows: &[],
+        changeset: b"\x54\x02\x01\0t4\0\x12\0\x01\0\0\0\0\0\0\0\x05\x03\x01a",
+        answers: &[],
+        kinds: [0, 0],
+        edits: &[(3, FIVE, Some(b"\x01\0\0\0\0\0\0\0\x05\x03\x01a\x05"))],
+        blob: b"",
+        skipped: 0,
+    },
+    Case {
+        rows: &[(3, ONE, Some(WIDE_ROW))],
+        changeset: b"\x54\x02\x01\0t4\0\x12\0\x01\0\0\0\0\0\0\0\x01\x03\x01x",
+        answers: &[Resolution::Replace],
+        kinds: [3, 0],
+        edits: &[(3, ONE, Some(b"\x01\0\0\0\0\0\0\0\x01\x03\x01x\x05"))],
+        blob: b"\x54\x02\x01\0t4\0\x12\x01\x01\0\0\0\0\0\0\0\x01\x03\x01x",
+        skipped: 0,
+    },
+    // A DELETE compares the columns that it has: made, left out, and made over another row; and one of a row that isn't there.
+    Case {
+        rows: &[(3, ONE, Some(WIDE_ROW))],
+        changeset: b"\x54\x02\x01\0t4\0\x09\0\x01\0\0\0\0\0\0\0\x01\x03\x02v1",
+        answers: &[],
+        kinds: [0, 0],
+        edits: &[(3, ONE, None)],
+        blob: b"",
+        skipped: 0,
+    },
+    Case {
+        rows: &[(3, ONE, Some(WIDE_ROW))],
+        changeset: b"\x54\x02\x01\0t4\0\x09\0\x01\0\0\0\0\0\0\0\x01\x03\x02v2",
+        answers: &[Resolution::Omit],
+        kinds: [1, 0],
+        edits: &[],
+        blob: b"\x54\x02\x01\0t4\0\x09\0\x01\0\0\0\0\0\0\0\x01\x03\x02v2",
+        skipped: 0,
+    },
+    Case {
+        rows: &[(3, ONE, Some(WIDE_ROW))],
+        changeset: b"\x54\x02\x01\0t4\0\x09\0\x01\0\0\0\0\0\0\0\x01\x03\x02v2",
+        answers: &[Resolution::Replace],
+        kinds: [1, 0],
+        edits: &[(3, ONE, None)],
+        blob: b"\x54\x02\x01\0t4\0\x09\x01\x01\0\0\0\0\0\0\0\x01\x03\x02v2",
+        skipped: 0,
+    },
+    Case {
+        rows: &[],
+        changeset: b"\x54\x02\x01\0t4\0\x09\0\x01\0\0\0\0\0\0\0\x01\x03\x02v1",
+        answers: &[Resolution::Omit],
+        kinds: [2, 0],
+        edits: &[],
+        blob: b"\x54\x02\x01\0t4\0\x09\0\x01\0\0\0\0\0\0\0\x01\x03\x02v1",
+        skipped: 0,
+    },
+    // An UPDATE leaves the third, made and over another row.
+    Case {
+        rows: &[(3, ONE, Some(WIDE_ROW))],
+        changeset: b"\x54\x02\x01\0t4\0\x17\0\x01\0\0\0\0\0\0\0\x01\x03\x02v1\0\x03\x02v2",
+        answers: &[],
+        kinds: [0, 0],
+        edits: &[(3, ONE, Some(b"\x01\0\0\0\0\0\0\0\x01\x03\x02v2\x03\x01c"))],
+        blob: b"",
+        skipped: 0,
+    },
+    Case {
+        rows: &[(3, ONE, Some(WIDE_ROW))],
+        changeset: b"\x54\x02\x01\0t4\0\x17\0\x01\0\0\0\0\0\0\0\x01\x03\x02v0\0\x03\x02v2",
+        answers: &[Resolution::Replace],
+        kinds: [1, 0],
+        edits: &[(3, ONE, Some(b"\x01\0\0\0\0\0\0\0\x01\x03\x02v2\x03\x01c"))],
+        blob: b"\x54\x02\x01\0t4\0\x12\x01\x01\0\0\0\0\0\0\0\x01\x03\x02v2",
+        skipped: 0,
+    },
+    // Two changes of one place, and before them a group with all columns.
+    Case {
+        rows: &[],
+        changeset: b"\x54\x02\x01\0t1\0\x12\0\x01\0\0\0\0\0\0\0\x01\x03\x02v1\x54\x02\x01\0t4\0\x12\0\x01\0\0\0\0\0\0\0\x05\x03\x01a\x17\0\x01\0\0\0\0\0\0\0\x05\x03\x01a\0\x03\x01b",
+        answers: &[],
+        kinds: [0, 0],
+        edits: &[
+            (0, ONE, Some(ROW)),
+            (3, FIVE, Some(b"\x01\0\0\0\0\0\0\0\x05\x03\x01b\x05")),
+        ],
+        blob: b"",
+        skipped: 0,
+    },
+    // More columns, other key columns, and a column behind that is of the key: these groups fit no table.
+    Case {
+        rows: &[],
+        changeset: b"\x54\x04\x01\0\0\0t4\0\x12\0\x01\0\0\0\0\0\0\0\x01\x03\x02v1\x05\x05",
+        answers: &[],
+        kinds: [0, 0],
+        edits: &[],
+        blob: b"",
+        skipped: 1,
+    },
+    Case {
+        rows: &[],
+        changeset: b"\x54\x02\0\x01t4\0\x12\0\x03\x02v1\x01\0\0\0\0\0\0\0\x01",
+        answers: &[],
+        kinds: [0, 0],
+        edits: &[],
+        blob: b"",
+        skipped: 1,
+    },
+    Case {
+        rows: &[],
+        changeset: b"\x54\x02\x01\0t5\0\x12\0\x01\0\0\0\0\0\0\0\x01\x03\x02v1",
+        answers: &[],
+        kinds: [0, 0],
+        edits: &[],
+        blob: b"",
+        skipped: 1,
     },
 ];
 
@@ -461,7 +582,7 @@ fn first_replaced(
 ) -> Result<Vec<u8>, Memory> {
     let mut blob = BlobBuf::new(alloc);
     for group in changeset.as_slice() {
-        if count_of(catalog, group) > 0 {
+        if sizes_of(catalog, group).count > 0 {
             blob.begin_group();
             blob.put(group, 0, Resolution::Replace)?;
         }

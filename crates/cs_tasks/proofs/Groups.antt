@@ -7,7 +7,8 @@ use Rattle.std.proofs.lemmas.Option.{same_Some}
 use Rattle.cs_value.specs.declared.catalog.TableDef.{TableDef}
 use Rattle.cs_change.specs.Spelling.{marks_of}
 use Rattle.cs_change.specs.declared.group.Group.{Group}
-use Rattle.cs_tasks.specs.Tasks.{Task, task, tasks, tasks_at, all_keyed, fits_table, table_of, skipped, one_if_none}
+use Rattle.cs_tasks.specs.Tasks.{AreWhole, Task, task, tasks, tasks_at, all_keyed, begins_marks, begins_table, fits_table, further, table_of, skipped, one_if_none}
+use Rattle.cs_tasks.specs.declared.fit.Fit.{Fit}
 use Rattle.cs_tasks.specs.Found.{AreGathered, TellsNullKey}
 use Rattle.cs_tasks.specs.declared.tasks.TasksBuilder.{TasksBuilder}
 use Rattle.cs_tasks.specs.declared.fault.TasksFault.{TasksFault}
@@ -43,7 +44,7 @@ skipped_more tables (first ∷ groups) group =
     omega (arith, more)
 
 -- the changes of a group that fits
-pub all_keyed_of : (table : ℕ) (group : Group) (changes : List Change) → all_keyed (map (task table group) changes) ≡ list_all (has_key (marks_of group.marks)) changes
+pub all_keyed_of : (table : Fit) (group : Group) (changes : List Change) → all_keyed (map (task table group) changes) ≡ list_all (has_key (marks_of group.marks)) changes
 all_keyed_of table group [] = refl
 all_keyed_of table group (c ∷ changes) = ap (λ more. has_key (marks_of group.marks) c && more) (all_keyed_of table group changes)
 
@@ -76,16 +77,16 @@ tasks_more tables (first ∷ groups) group =
     ap (λ more. tasks_at (table_of first tables) first ++ more) (tasks_more tables groups group)
     ∙ sym (append_assoc (tasks_at (table_of first tables) first) (tasks tables groups) (tasks_at (table_of group tables) group))
 
-one_at_most : (place : Option ℕ) → one_if_none place ≤ 1
+one_at_most : (place : Option Fit) → one_if_none place ≤ 1
 one_at_most None = omega (arith)
 one_at_most (Some at) = omega (arith)
 
 -- whether a group fits a table counts
-pub none_counts : {X : Type 0} (at : X → ℕ) (found : Option X) (place : Option ℕ) (none : Bool) → option_map at found ≡ place → is_some found ≡ not none → none ≡ true → one_if_none place ≡ 1
+pub none_counts : {X : Type 0} (at : X → Fit) (found : Option X) (place : Option Fit) (none : Bool) → option_map at found ≡ place → is_some found ≡ not none → none ≡ true → one_if_none place ≡ 1
 none_counts at None place none is told none_is = ap one_if_none (sym is)
 none_counts at (Some x) place none is told none_is = absurd (let both : true ≡ false = told ∙ ap not none_is in cc)
 
-pub one_counts : {X : Type 0} (at : X → ℕ) (found : Option X) (place : Option ℕ) (none : Bool) → option_map at found ≡ place → is_some found ≡ not none → none ≡ false → one_if_none place ≡ 0
+pub one_counts : {X : Type 0} (at : X → Fit) (found : Option X) (place : Option Fit) (none : Bool) → option_map at found ≡ place → is_some found ≡ not none → none ≡ false → one_if_none place ≡ 0
 one_counts at None place none is told none_is = absurd (let both : false ≡ true = told ∙ ap not none_is in cc)
 one_counts at (Some x) place none is told none_is = ap one_if_none (sym is)
 
@@ -112,7 +113,7 @@ turn tables all at group old new less is stands put counted =
     let count = count_turn tables all at group old.skipped new.skipped less is stands.1 stands.2 counted in
     (rw (more, tasks_more tables (take at all) group) found, count.0, count.1)
 
-pub fitting_fault : {T : Type 0} (r : Result T TasksFault) (place : Option ℕ) (at : ℕ) (group : Group) (marks : List Bool) → Some at ≡ place → marks_of group.marks ≡ marks
+pub fitting_fault : {T : Type 0} (r : Result T TasksFault) (place : Option Fit) (at : Fit) (group : Group) (marks : List Bool) → Some at ≡ place → marks_of group.marks ≡ marks
     → IfErr r (λ fault. TellsNullKey fault (list_all (has_key marks) group.changes))
     → IfErr r (λ fault. TellsNullKey fault (all_keyed (tasks_at place group)))
 fitting_fault r place at group marks is same h =
@@ -121,7 +122,7 @@ fitting_fault r place at group marks is same h =
 -- ---- the changes alone
 
 -- the changes of a group that fits are applied
-pub all_of : (table : ℕ) (group : Group) (changes : List Change) → map (λ t. t.change) (map (task table group) changes) ≡ changes
+pub all_of : (table : Fit) (group : Group) (changes : List Change) → map (λ t. t.change) (map (task table group) changes) ≡ changes
 all_of table group [] = refl
 all_of table group (c ∷ changes) = ap (λ (more : List Change). c ∷ more) (all_of table group changes)
 
@@ -130,21 +131,21 @@ none_left [] none = refl
 none_left (x ∷ xs) none = absurd (omega (arith, none))
 
 -- of a group that fits no table, or has no change, none is applied
-pub none_applied : (place : Option ℕ) (group : Group) → length (tasks_at place group) ≡ 0 → map (λ t. t.change) (tasks_at place group) ≡ []
+pub none_applied : (place : Option Fit) (group : Group) → length (tasks_at place group) ≡ 0 → map (λ t. t.change) (tasks_at place group) ≡ []
 none_applied place group none = ap (λ (ts : List Task). map (λ t. t.change) ts) (none_left (tasks_at place group) none)
 
 -- where some are applied, all are
-pub all_applied : (place : Option ℕ) (group : Group) → (length (tasks_at place group) ≡ 0 → ⊥) → map (λ t. t.change) (tasks_at place group) ≡ group.changes
+pub all_applied : (place : Option Fit) (group : Group) → (length (tasks_at place group) ≡ 0 → ⊥) → map (λ t. t.change) (tasks_at place group) ≡ group.changes
 all_applied None group some = absurd (some refl)
 all_applied (Some table) group some = all_of table group group.changes
 
 -- the changes of a group behind none, and none behind others
-pub first_changes : (place : Option ℕ) (group : Group) (before after : List Change) → length before ≡ 0 → after ≡ group.changes
+pub first_changes : (place : Option Fit) (group : Group) (before after : List Change) → length before ≡ 0 → after ≡ group.changes
     → (length (tasks_at place group) ≡ 0 → ⊥) → after ≡ before ++ map (λ t. t.change) (tasks_at place group)
 first_changes place group before after none is some =
     is ∙ sym (ap (λ (cs : List Change). cs ++ map (λ t. t.change) (tasks_at place group)) (none_left before none) ∙ all_applied place group some)
 
-pub no_changes : (place : Option ℕ) (group : Group) (before after : List Change) → after ≡ before
+pub no_changes : (place : Option Fit) (group : Group) (before after : List Change) → after ≡ before
     → length (tasks_at place group) ≡ 0 → after ≡ before ++ map (λ t. t.change) (tasks_at place group)
 no_changes place group before after is none =
     is ∙ sym (ap (λ (cs : List Change). before ++ cs) (none_applied place group none) ∙ append-nil before)
@@ -160,3 +161,24 @@ changes_more tables all at group before after less is were are =
     ∙ ap (λ (cs : List Change). cs ++ map (λ t. t.change) (tasks_at (table_of group tables) group)) were
     ∙ sym (map-append (λ t. t.change) (tasks tables (take at all)) (tasks_at (table_of group tables) group))
     ∙ sym (ap (λ (ts : List Task). map (λ t. t.change) ts) (ap (tasks tables) more ∙ tasks_more tables (take at all) group))
+
+-- ---- whether columns are missing
+
+pub group_whole : (fit : Fit) (group : Group) (changes : List Change) → fit.missing ≡ 0 → AreWhole (map (task fit group) changes)
+group_whole fit group [] none = tt
+group_whole fit group (c ∷ changes) none = (none, group_whole fit group changes none)
+
+pub whole_both : (some others : List Task) → AreWhole some → AreWhole others → AreWhole (some ++ others)
+whole_both [] others first second = second
+whole_both (t ∷ some) others first second = (first.0, whole_both some others first.1 second)
+
+pub group_misses : (o : Option Fit) (group : Group) → ((fit : Fit) → o ≡ Some fit → fit.missing ≡ 0) → AreWhole (tasks_at o group)
+group_misses None group none = tt
+group_misses (Some fit) group none = group_whole fit group group.changes (none fit refl)
+
+-- one group more
+pub whole_more : (tables : List TableDef) (all : List Group) (at : ℕ) (group : Group) → at < length all → group ≡ get_or all at group
+    → AreWhole (tasks tables (take at all)) → AreWhole (tasks_at (table_of group tables) group) → AreWhole (tasks tables (take (at + 1) all))
+whole_more tables all at group less is before here =
+    let more : take (at + 1) all ≡ take at all ++ group ∷ [] = take_more all at group less ∙ ap (λ g. take at all ++ g ∷ []) (sym is) in
+    rw (more, tasks_more tables (take at all) group) (whole_both (tasks tables (take at all)) (tasks_at (table_of group tables) group) before here)

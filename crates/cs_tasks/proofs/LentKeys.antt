@@ -10,8 +10,10 @@ use Rattle.cs_change.specs.declared.change.Change.{Change}
 use Rattle.cs_change.specs.declared.group.Group.{Group}
 use Rattle.cs_order.specs.Order.{Keys}
 use Rattle.cs_store.specs.States.{place_bytes}
-use Rattle.cs_normal.specs.keyed.NormalForm.{change_bytes, marked_fields}
+use Rattle.cs_normal.specs.keyed.NormalForm.{HaveSameKeys, change_bytes, has_key, marked_fields}
+use Rattle.cs_tasks.specs.Facts.{same_key}
 use Rattle.cs_tasks.specs.Tasks.{task}
+use Rattle.cs_tasks.specs.declared.fit.Fit.{Fit}
 
 no_marks : (fields : List Field) → marked_fields [] fields ≡ []
 unfolding marked_fields
@@ -51,25 +53,36 @@ unfolding marked_fields
 one_passed marks more_marks mark fields more column are is unmarked = rw (are, is, unmarked) refl
 
 -- each change is one of the group's
-module _ (table : ℕ) (group : Group) where
+module _ (fit : Fit) (group : Group) where
   abbrev marks : List Bool
   marks = marks_of group.marks
 
-  all_tables : (changes : List Change) → map (λ key. table) (map (change_bytes marks) changes) ≡ map (λ t. t.table) (map (task table group) changes)
+  all_tables : (changes : List Change) → map (λ key. fit.table) (map (change_bytes marks) changes) ≡ map (λ t. t.table) (map (task fit group) changes)
   all_tables [] = refl
-  all_tables (c ∷ changes) = ap (λ (more : List ℕ). table ∷ more) (all_tables changes)
+  all_tables (c ∷ changes) = ap (λ (more : List ℕ). fit.table ∷ more) (all_tables changes)
 
   pub tables_lent : (keys : Keys) (changes : List Change) → keys ≡ map (change_bytes marks) changes
-      → map (λ key. table) keys ≡ map (λ t. t.table) (map (task table group) changes)
-  tables_lent keys changes are = ap (map (λ key. table)) are ∙ all_tables changes
+      → map (λ key. fit.table) keys ≡ map (λ t. t.table) (map (task fit group) changes)
+  tables_lent keys changes are = ap (map (λ key. fit.table)) are ∙ all_tables changes
 
-  all_places : (changes : List Change) → map (place_bytes table) (map (change_bytes marks) changes) ≡ map (λ t. place_bytes t.table t.key) (map (task table group) changes)
+  all_places : (changes : List Change) → map (place_bytes fit.table) (map (change_bytes marks) changes) ≡ map (λ t. place_bytes t.table t.key) (map (task fit group) changes)
   all_places [] = refl
-  all_places (c ∷ changes) = ap (λ (more : Keys). place_bytes table (change_bytes marks c) ∷ more) (all_places changes)
+  all_places (c ∷ changes) = ap (λ (more : Keys). place_bytes fit.table (change_bytes marks c) ∷ more) (all_places changes)
 
   pub places_lent : (keys : Keys) (changes : List Change) → keys ≡ map (change_bytes marks) changes
-      → map (place_bytes table) keys ≡ map (λ t. place_bytes t.table t.key) (map (task table group) changes)
-  places_lent keys changes are = ap (map (place_bytes table)) are ∙ all_places changes
+      → map (place_bytes fit.table) keys ≡ map (λ t. place_bytes t.table t.key) (map (task fit group) changes)
+  places_lent keys changes are = ap (map (place_bytes fit.table)) are ∙ all_places changes
+
+-- by marks with the same keys the changes have the same keys, and have them alike
+pub all_same : (front marks : List Bool) → HaveSameKeys front marks → (changes : List Change)
+    → (map (change_bytes front) changes ≡ map (change_bytes marks) changes) × (list_all (has_key front) changes ≡ list_all (has_key marks) changes)
+all_same front marks same [] = (refl, refl)
+all_same front marks same (c ∷ changes) =
+    let here = same_key front marks c same in
+    let more = all_same front marks same changes in (
+      ap (λ (k : List ℕ). k ∷ map (change_bytes front) changes) here.0 ∙ ap (λ (ks : Keys). change_bytes marks c ∷ ks) more.0,
+      ap (λ (b : Bool). b && list_all (has_key front) changes) here.1 ∙ ap (λ (b : Bool). has_key marks c && b) more.1,
+    )
 
 -- the table there
 pub same_table : {X : Type 0} (table : ℕ) (keys : List X) (at : ℕ) → at < length keys → table ≡ get_or (map (λ key. table) keys) at 0

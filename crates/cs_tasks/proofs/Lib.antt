@@ -1,5 +1,6 @@
 pub mod BlobFits
 pub mod Blobs
+pub mod Fits
 pub mod Fronts
 pub mod Groups
 pub mod LentKeys

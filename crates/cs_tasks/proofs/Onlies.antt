@@ -4,6 +4,7 @@ use Rattle.std.proofs.lemmas.List.{append-nil, take_more}
 use Rattle.cs_value.specs.declared.catalog.TableDef.{TableDef}
 use Rattle.cs_change.specs.Spelling.{marks_of}
 use Rattle.cs_change.specs.declared.group.Group.{Group}
+use Rattle.cs_normal.specs.keyed.NormalForm.{HaveSameKeys}
 use Rattle.cs_tasks.specs.Tasks.{Task, table_of, task, tasks, tasks_at}
 use Rattle.cs_tasks.specs.declared.only.Only.{Only}
 use Rattle.cs_tasks.proofs.Groups.{tasks_more}
@@ -12,7 +13,7 @@ use Rattle.cs_tasks.proofs.Groups.{tasks_more}
 abbrev pub AreOf : List Task → Option Only → Type 0
 AreOf all None = all ≡ []
 AreOf all (Some only) =
-    (all ≡ map (task only.table only.group.now) only.group.now.changes) × (marks_of only.group.now.marks ≡ only.marks.now)
+    (all ≡ map (task only.fit only.group.now) only.group.now.changes) × HaveSameKeys only.marks.now (marks_of only.group.now.marks)
 
 module _ (tables : List TableDef) (all : List Group) (at : ℕ) (group : Group) (less : at < length all) (is : group ≡ get_or all at group) where
   one_more : tasks tables (take (at + 1) all) ≡ tasks tables (take at all) ++ tasks_at (table_of group tables) group
@@ -28,7 +29,7 @@ module _ (tables : List TableDef) (all : List Group) (at : ℕ) (group : Group) 
       rw same are
 
   -- and one of which they are, behind none
-  pub first_more : (only : Only) → tasks_at (table_of group tables) group ≡ map (task only.table only.group.now) only.group.now.changes
-      → marks_of only.group.now.marks ≡ only.marks.now → tasks tables (take at all) ≡ [] → AreOf (tasks tables (take (at + 1) all)) (Some only)
+  pub first_more : (only : Only) → tasks_at (table_of group tables) group ≡ map (task only.fit only.group.now) only.group.now.changes
+      → HaveSameKeys only.marks.now (marks_of only.group.now.marks) → tasks tables (take at all) ≡ [] → AreOf (tasks tables (take (at + 1) all)) (Some only)
   first_more only its marks none =
       (one_more ∙ ap (λ ts. ts ++ tasks_at (table_of group tables) group) none ∙ its, marks)

@@ -1,22 +1,22 @@
 //! The changes that are applied, and where each stands.
 
-ghost use Rattle.std.specs.Prelude.{◌≡◌, ◌<◌, ◌+◌, ◌++◌, ◌∷◌, [], List, length, map, option_map, OnOk, IfOk, IfErr, IfSome};
+ghost use Rattle.std.specs.Prelude.{◌≡◌, ◌<◌, ◌+◌, ◌++◌, ◌∷◌, [], List, length, map, true, false, OnOk, IfOk, IfErr};
 ghost use Rattle.std.specs.List.{list_all};
 ghost use Rattle.cs_change.specs.Spelling.{marks_of};
 ghost use Rattle.cs_normal.specs.keyed.NormalForm.{HaveSameKeys, change_bytes, has_key};
 ghost use Rattle.cs_store.specs.States.{place_bytes};
-ghost use Rattle.cs_tasks.specs.Tasks.{Task, all_keyed, fits_table, table_of, task, tasks, tasks_at, one_if_none, skipped};
+ghost use Rattle.cs_tasks.specs.Tasks.{AreWhole, Task, all_keyed, table_of, task, tasks, tasks_at, one_if_none, skipped};
 ghost use Rattle.cs_tasks.specs.Found.{AreFound, AreGathered, TellsNullKey};
 
 use crate::change_list::{ChangeList, list_changes};
 use crate::fault::TasksFault;
+use crate::fit::{Fit, find_table};
 use crate::lending::lend_keys;
 use crate::only::{Only, count_skipped, find_only};
 use crate::task_places::TaskPlaces;
 use cs_change::{Change, Changeset, Group};
 use cs_normal::keyed::{KeysBuilder, key_front};
-use cs_normal::same_shape;
-use cs_value::{Catalog, Memory, TableDef};
+use cs_value::{Catalog, Memory};
 use std::alloc::Global;
 
 /// How many bytes a place takes whose key is one integer.
@@ -31,6 +31,8 @@ pub struct Tasks<'a> {
     pub places: TaskPlaces<'a>,
     /// How many groups fit no table.
     pub skipped: usize,
+    /// Where it is true, each change has all columns of its table.
+    pub whole: bool,
 }
 
 /// What is found of them, while it is gathered: places are written where they come to stand.
@@ -52,34 +54,8 @@ impl TasksBuilder {
     }
 }
 
-/// Whether the group has the table's name, column count and key columns.
-fn fits(group: &Group<'_>, table: &TableDef) -> bool
-    ensures { result ≡ fits_table group.now table.now }
-{
-    group.name.as_str() == table.name.as_str()
-        && same_shape(group.marks.as_slice(), table.key_marks.as_slice())
-}
-
-/// The table that the group fits, if there is one, behind its place.
-#[tactic(auto, unfolding(crate::specs::Tasks::table_of))]
-pub(crate) fn find_table<'a>(group: &Group<'_>, catalog: &'a Catalog) -> Option<(u32, &'a TableDef)>
-    ensures place { option_map (λ found. found.0) result ≡ table_of group.now catalog.now }
-    ensures marks { IfSome result (λ found. marks_of group.now.marks ≡ found.1.now.key_marks) }
-{
-    let mut place = 0;
-    let mut rest = catalog.tables();
-    while let Some((table, more)) = rest.split_first() {
-        if fits(group, table) {
-            return Some((place, table));
-        }
-        place += 1;
-        rest = more;
-    }
-    None
-}
-
 /// How many changes of the group are applied: all of them where it fits a table, else none.
-pub fn count_of(catalog: &Catalog, group: &Group<'_>) -> usize
+pub(crate) fn count_of(catalog: &Catalog, group: &Group<'_>) -> usize
     ensures { result ≡ length (tasks_at (table_of group.now catalog.now) group.now) }
 {
     match find_table(group, catalog) {
@@ -118,7 +94,7 @@ fn put_place(
 
 /// Puts a change behind the others.
 fn put_task(
-    table: u32,
+    fit: Fit,
     group: &Group<'_>,
     marks: &[bool],
     change: &Change<'_>,
@@ -126,33 +102,33 @@ fn put_task(
 ) -> Result<(), TasksFault>
     requires { HaveSameKeys marks.now (marks_of group.now.marks) }
     ensures put { (before : List Task) → AreGathered tasks.old before
-        → OnOk result (AreGathered tasks.new (before ++ task table group.now change.now ∷ [])) }
+        → OnOk result (AreGathered tasks.new (before ++ task fit group.now change.now ∷ [])) }
     ensures skipped { tasks.new.skipped ≡ tasks.old.skipped }
     ensures fault { IfErr result (λ fault. TellsNullKey fault (has_key (marks_of group.now.marks) change.now)) }
 {
-    if !put_place(table, group, marks, change, &mut tasks.places)? {
+    if !put_place(fit.table, group, marks, change, &mut tasks.places)? {
         return Err(TasksFault::NullKey);
     }
-    tasks.tables.push(table)?;
+    tasks.tables.push(fit.table)?;
     Ok(())
 }
 
 /// Puts the changes of a group of this table behind the others.
 fn put_group(
-    table: u32,
+    fit: Fit,
     group: &Group<'_>,
     marks: &[bool],
     tasks: &mut TasksBuilder,
 ) -> Result<(), TasksFault>
-    requires { marks_of group.now.marks ≡ marks.now }
+    requires { HaveSameKeys marks.now (marks_of group.now.marks) }
     ensures put { (before : List Task) → AreGathered tasks.old before
-        → OnOk result (AreGathered tasks.new (before ++ map (task table group.now) group.now.changes)) }
+        → OnOk result (AreGathered tasks.new (before ++ map (task fit group.now) group.now.changes)) }
     ensures skipped { tasks.new.skipped ≡ tasks.old.skipped }
     ensures fault { IfErr result (λ fault. TellsNullKey fault (list_all (has_key (marks_of group.now.marks)) group.now.changes)) }
 {
     let front = key_front(marks);
     for change in group.changes.as_slice() {
-        put_task(table, group, front, change, tasks)?;
+        put_task(fit, group, front, change, tasks)?;
     }
     Ok(())
 }
@@ -171,37 +147,67 @@ fn put_fitting(
     ensures fault { IfErr result (λ fault.
         TellsNullKey fault (all_keyed (tasks_at (table_of group.now catalog.now) group.now))) }
 {
-    let Some((at, table)) = find_table(group, catalog) else {
+    let Some((fit, table)) = find_table(group, catalog) else {
         tasks.skipped += 1;
         return Ok(());
     };
-    put_group(at, group, table.key_marks.as_slice(), tasks)
+    put_group(fit, group, table.key_marks.as_slice(), tasks)
 }
 
 /// What is found of the changes of the only group of which some are applied.
+#[tactic(auto, using(crate::proofs::Groups::group_whole))]
 fn tasks_of_one<'a>(alloc: Global, only: &Only<'a>, skipped: usize) -> Result<Tasks<'a>, TasksFault>
-    requires { marks_of only.now.group.now.marks ≡ only.now.marks.now }
-    ensures found { IfOk result (λ found. AreFound found (map (task only.now.table only.now.group.now) only.now.group.now.changes)) }
+    requires { HaveSameKeys only.now.marks.now (marks_of only.now.group.now.marks) }
+    ensures found { IfOk result (λ found. AreFound found (map (task only.now.fit only.now.group.now) only.now.group.now.changes)) }
     ensures skipped { IfOk result (λ found. found.skipped ≡ skipped) }
+    ensures whole { IfOk result (λ found. found.whole ≡ true
+        → AreWhole (map (task only.now.fit only.now.group.now) only.now.group.now.changes)) }
     ensures fault { IfErr result (λ fault.
-        TellsNullKey fault (all_keyed (map (task only.now.table only.now.group.now) only.now.group.now.changes))) }
+        TellsNullKey fault (all_keyed (map (task only.now.fit only.now.group.now) only.now.group.now.changes))) }
 {
     let changes = ChangeList::lend(only.group.changes.as_slice());
+    let whole = only.fit.missing == 0;
     if let Some(keys) = lend_keys(alloc, only.marks, only.group.changes.as_slice())? {
-        let places = TaskPlaces::lent(only.table, keys);
+        let places = TaskPlaces::lent(only.fit.table, keys);
         return Ok(Tasks {
             changes,
             places,
             skipped,
+            whole,
         });
     }
     let mut tasks = with_capacity(alloc, only.group.changes.as_slice().len())?;
-    put_group(only.table, only.group, only.marks, &mut tasks)?;
+    put_group(only.fit, only.group, only.marks, &mut tasks)?;
     Ok(Tasks {
         changes,
         places: tasks.finish(),
         skipped,
+        whole,
     })
+}
+
+/// Whether a group misses columns of the table that it fits.
+#[tactic(auto, using(crate::proofs::Groups::group_misses))]
+fn misses_some(catalog: &Catalog, group: &Group<'_>) -> bool
+    ensures { result ≡ false → AreWhole (tasks_at (table_of group.now catalog.now) group.now) }
+{
+    match find_table(group, catalog) {
+        None => false,
+        Some((fit, _)) => fit.missing > 0,
+    }
+}
+
+/// Whether no group misses columns of the table that it fits.
+#[tactic(auto, using(crate::proofs::Groups::whole_more))]
+fn are_whole(catalog: &Catalog, changeset: &Changeset<'_>) -> bool
+    ensures { result ≡ true → AreWhole (tasks catalog.now changeset.now) }
+{
+    for group in changeset.as_slice() {
+        if misses_some(catalog, group) {
+            return false;
+        }
+    }
+    true
 }
 
 /// What is found of the changes of all groups.
@@ -212,9 +218,11 @@ fn tasks_of_all<'a>(
 ) -> Result<Tasks<'a>, TasksFault>
     ensures found { IfOk result (λ found. AreFound found (tasks catalog.now changeset.now)) }
     ensures skipped { IfOk result (λ found. found.skipped ≡ skipped catalog.now changeset.now) }
+    ensures whole { IfOk result (λ found. found.whole ≡ true → AreWhole (tasks catalog.now changeset.now)) }
     ensures fault { IfErr result (λ fault. TellsNullKey fault (all_keyed (tasks catalog.now changeset.now))) }
 {
     let changes = list_changes(alloc, catalog, changeset)?;
+    let whole = are_whole(catalog, changeset);
     let mut tasks = with_capacity(alloc, changes.as_slice().len())?;
     for group in changeset.as_slice() {
         put_fitting(catalog, group, &mut tasks)?;
@@ -224,12 +232,13 @@ fn tasks_of_all<'a>(
         changes,
         places: tasks.finish(),
         skipped,
+        whole,
     })
 }
 
-/// The changes that are applied: those of the groups that fit a table of the catalog, in order, each with its place. (SQLite's
-/// "Session Extension", `sqlite3changeset_apply_v2`; that the columns must fit the table's exactly is a profile of this
-/// project.)
+/// The changes that are applied: those of the groups that fit a table of the catalog, in order, each with its place. A group fits a
+/// table of its name if it has the table's columns, or its first with all that are of the key. (SQLite's "Session Extension",
+/// `sqlite3changeset_apply_v2`; that a group with more columns fits none is a profile of this project.)
 ///
 /// # Errors
 ///
@@ -241,6 +250,7 @@ pub fn find_tasks<'a>(
 ) -> Result<Tasks<'a>, TasksFault>
     ensures found { IfOk result (λ found. AreFound found (tasks catalog.now changeset.now)) }
     ensures skipped { IfOk result (λ found. found.skipped ≡ skipped catalog.now changeset.now) }
+    ensures whole { IfOk result (λ found. found.whole ≡ true → AreWhole (tasks catalog.now changeset.now)) }
     ensures fault { IfErr result (λ fault. TellsNullKey fault (all_keyed (tasks catalog.now changeset.now))) }
 {
     match find_only(catalog, changeset) {

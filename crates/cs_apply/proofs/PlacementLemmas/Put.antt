@@ -16,7 +16,7 @@ use Rattle.cs_change.specs.declared.change.Change.{Change}
 use Rattle.cs_change.specs.declared.group.Group.{Group}
 use Rattle.cs_normal.specs.Normal.{group_of}
 use Rattle.cs_normal.specs.declared.normal.TableChanges.{TableChanges}
-use Rattle.cs_apply.specs.NormalTasks.{IsOfOne, keyed_task, keyed_tasks, number_of, one_table, table_found}
+use Rattle.cs_apply.specs.NormalTasks.{IsOfOne, keyed_task, keyed_tasks, number_of, one_table, table_at}
 use Rattle.cs_apply.specs.Spots.{all_both, both_true, name_is}
 use Rattle.cs_tasks.specs.Tasks.{Task, fits_table, table_of}
 use Rattle.cs_apply.specs.placement.Places.{ArePlaced, IsPlaced, task_of}
@@ -49,7 +49,7 @@ are_placed_more tables items now p grown is all =
     subst (λ (ps : List Placed). ArePlaced tables ps) (sym grown) (all_both (IsPlaced tables) items (p ∷ []) all (is, tt))
 
 task_with : ℕ → List ℕ → List Bool → List ℕ → Change → Task
-task_with number name marks key change = record { table = number; name = name; marks = marks; key = key; change = change }
+task_with number name marks key change = record { table = number; name = name; marks = marks; missing = 0; key = key; change = change }
 
 pub same_made : (p : Placed) (number : ℕ) (first : TableChanges) (key : List ℕ) (change : Change) → p.number ≡ number → p.table.now.name ≡ first.name → p.table.now.key_marks ≡ first.marks → p.key.now ≡ key → p.change ≡ change
     → task_of p ≡ keyed_task number first (key, change)
@@ -68,38 +68,15 @@ found_there tables shown name place table same within is holds =
     let at : get_or tables place table ≡ table = ap (λ (ts : List TableDef). get_or ts place table) (sym same) ∙ sym is in
     (slice_get-get_or tables place table within ∙ ap (λ t. Some t) at, (place, within, at), subst (λ (t : TableDef). t.name ≡ name) at (holds table))
 
-HasName : List TableDef → ℕ → List ℕ → Type 0
-HasName tables at name = (table : TableDef) × (slice_get tables at ≡ Some table) × (table.name ≡ name)
-
-further : (group : Group) (first : TableDef) (all : List TableDef) (o : Option ℕ) (at : ℕ) → ((place : ℕ) → o ≡ Some place → HasName all place group.name)
-    → option_map (λ place. place + 1) o ≡ Some at → HasName (first ∷ all) at group.name
-unfolding HasName
-further group first all None at later e = absurd (let f = e in cc)
-further group first all (Some place) at later e =
-    let is : at ≡ suc place = (let f : place + 1 ≡ at = same_Some _ _ e in omega (arith, f)) in
-    let there = later place refl in
-    rw is (there.0, there.1, there.2)
-
-name_at_table : (group : Group) (all : List TableDef) (at : ℕ) → table_of group all ≡ Some at → HasName all at group.name
-unfolding table_of HasName
-name_at_table group [] at e = absurd (let f = e in cc)
-name_at_table group (table ∷ all) at e =
-    by_test (fits_table group table) _
-    (λ t. let is : 0 ≡ at = same_Some _ _ (rw t at e) in
-    let both = both_true (bytes_eq group.name table.name) (pointwise beq (marks_of group.marks) table.key_marks) t in
-    rw (sym is) (table, refl, sym (name_is group.name table.name both.0)))
-    (λ t. further group table all (table_of group all) at (λ place found. name_at_table group all place found) (rw t at e))
-
 named_at : (tables : List TableDef) (at : ℕ) (t : TableDef) (name : List ℕ) → slice_get tables at ≡ Some t → t.name ≡ name → HoldsAt (λ table. table.name ≡ name) tables at
 named_at tables at t name is named = λ d. ap (λ (u : TableDef). u.name) (get_or_from_slice_get tables at t d is) ∙ named
 
 pub number_is : OnePlaceOfName → (tables : List TableDef) → AreTables tables → (first : TableChanges) → IsOfOne tables first → (number : ℕ) (table : TableDef) → slice_get tables number ≡ Some table → table.name ≡ first.name
     → number ≡ number_of tables first
-unfolding HasName
 number_is one tables are first of number table at named =
-    let there = name_at_table (group_of first) tables (number_of tables first) (table_found tables first of) in
-    one first.name tables number (number_of tables first) are (slice_get_within tables number table at) (slice_get_within tables (number_of tables first) there.0 there.1)
-    (named_at tables number table first.name at named) (named_at tables (number_of tables first) there.0 first.name there.1 there.2)
+    let there = table_at tables first of in
+    one first.name tables number (number_of tables first) are (slice_get_within tables number table at) (slice_get_within tables (number_of tables first) there.table there.stands)
+    (named_at tables number table first.name at named) (named_at tables (number_of tables first) there.table first.name there.stands there.named)
 
 pub marks_are : OnePlaceOfName → (tables : List TableDef) → AreTables tables → (first : TableChanges) → IsOfOne tables first → (table : TableDef) → Contains tables table → table.name ≡ first.name
     → table.key_marks ≡ first.marks

@@ -10,6 +10,7 @@ task_of placed = record {
   table = placed.number;
   name = placed.table.now.name;
   marks = placed.table.now.key_marks;
+  missing = 0;
   key = placed.key.now;
   change = placed.change;
 }

@@ -18,7 +18,7 @@ use Rattle.cs_conflict.specs.declared.kind.Kind.TheVariants.{NotFound}
 use Rattle.cs_conflict.specs.declared.wish.Wish.{Wish}
 use Rattle.cs_conflict.specs.declared.wish.Wish.TheVariants.{Keep, Take, Stop}
 use Rattle.cs_change.specs.netting.Combine.{with_flag_any}
-use Rattle.cs_apply.specs.Applies.{IsConflictOf}
+use Rattle.cs_apply.specs.Applies.{IsConflictOf, sized}
 use Rattle.cs_tasks.specs.Tasks.{Task}
 use Rattle.cs_pending.specs.Nets.{action_with_flag}
 use Rattle.cs_exchange.specs.taking.Takes.{IsClashOf}
@@ -83,9 +83,9 @@ gone_deletes tells replaces marks None (Some row) theirs change local made stuck
     absurd (let none : Some row ≡ None = no_row change (Some row) ((replaces change (Some row)).1 stuck) in cc)
 
 pub is_clash : (task : Task) (log own : Place) (clash : Clash) (conflict : Conflict) (local : Change) → clash.conflict ≡ conflict → clash.local ≡ local
-    → IsConflictOf task.table task.change own conflict → with_flag_any false (net task.marks log own) ≡ Some local → IsClashOf task log own clash
+    → IsConflictOf task.table (sized 0 task.change) own conflict → with_flag_any false (net task.marks log own) ≡ Some local → IsClashOf task log own clash
 is_clash task log own clash conflict local c l of is = record {
-  of_conflict = subst (λ (x : Conflict). IsConflictOf task.table task.change own x) (sym c) of;
+  of_conflict = subst (λ (x : Conflict). IsConflictOf task.table (sized 0 task.change) own x) (sym c) of;
   of_local = is ∙ ap (λ (x : Change). Some x) (sym l);
 }
 

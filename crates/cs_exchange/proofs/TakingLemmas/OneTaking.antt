@@ -16,7 +16,7 @@ use Rattle.cs_conflict.specs.declared.conflict.Conflict.{Conflict}
 use Rattle.cs_conflict.specs.declared.kind.Kind.TheVariants.{NotFound}
 use Rattle.cs_conflict.specs.declared.wish.Wish.{Wish}
 use Rattle.cs_conflict.specs.declared.wish.Wish.TheVariants.{Stop}
-use Rattle.cs_apply.specs.Applies.{IsConflictOf}
+use Rattle.cs_apply.specs.Applies.{IsConflictOf, SizedChange, sized}
 use Rattle.cs_tasks.specs.Tasks.{Task}
 use Rattle.cs_rebaser.specs.Merge.{merge}
 use Rattle.cs_exchange.specs.taking.Laws.{OneClash, PicksOnce}
@@ -25,7 +25,7 @@ use mathlib.Core.HLevel.{is_prop→PathP}
 
 -- ---- clashes
 
-one_conflict : (table : ℕ) (change : Change) (place : Place) (some other : Conflict) → IsConflictOf table change place some → IsConflictOf table change place other → some ≡ other
+one_conflict : (table : ℕ) (change : SizedChange) (place : Place) (some other : Conflict) → IsConflictOf table change place some → IsConflictOf table change place other → some ≡ other
 one_conflict table change place some other s o =
     let kinds : some.kind ≡ other.kind = same_Some _ _ (sym s.of_kind ∙ o.of_kind) in
     let tables : some.table ≡ other.table = s.of_table ∙ sym o.of_table in
@@ -50,7 +50,7 @@ same_clash some other conflict local =
 
 pub one_clash : OneClash
 one_clash task log own some other s o =
-    same_clash some other (one_conflict task.table task.change own some.conflict other.conflict s.of_conflict o.of_conflict) (same_Some _ _ (sym s.of_local ∙ o.of_local))
+    same_clash some other (one_conflict task.table (sized 0 task.change) own some.conflict other.conflict s.of_conflict o.of_conflict) (same_Some _ _ (sym s.of_local ∙ o.of_local))
 
 -- ---- a picker that answers each clash once
 

@@ -19,7 +19,7 @@ use Rattle.cs_conflict.specs.declared.clash.Clash.{Clash}
 use Rattle.cs_conflict.specs.declared.conflict.Conflict.{Conflict}
 use Rattle.cs_conflict.specs.declared.wish.Wish.{Wish}
 use Rattle.cs_conflict.specs.declared.wish.Wish.TheVariants.{Stop}
-use Rattle.cs_apply.specs.Applies.{IsConflictOf}
+use Rattle.cs_apply.specs.Applies.{IsConflictOf, sized}
 use Rattle.cs_tasks.specs.Tasks.{Task, tasks}
 use Rattle.cs_change.specs.netting.Combine.{with_flag_any}
 use Rattle.cs_rebaser.specs.Merge.{merge}
@@ -33,7 +33,7 @@ use Rattle.cs_exchange.specs.declared.taking.fault.TakeFault.TheVariants.{Memory
 -- the clash shows the other's change, its conflict with the own row, and the own change. That is the net change from the log's
 -- row to the own one, not indirect
 pub record IsClashOf (task : Task) (log own : Place) (clash : Clash) : Type 0 where
-  pub of_conflict : IsConflictOf task.table task.change own clash.conflict
+  pub of_conflict : IsConflictOf task.table (sized 0 task.change) own clash.conflict
   pub of_local : with_flag_any false (net task.marks log own) ≡ Some clash.local
 
 -- the entry or what is under way has a change at the place

@@ -10,7 +10,7 @@ use Rattle.cs_conflict.specs.declared.conflict.Conflict.{Conflict}
 use Rattle.cs_conflict.specs.declared.conflict.Resolution.{Resolution}
 use Rattle.cs_conflict.specs.declared.conflict.Resolution.TheVariants.{Abort}
 use Rattle.cs_conflict.specs.declared.kind.Kind.{Kind}
-use Rattle.cs_apply.specs.Applies.{AppliesOne, IsConflictOf, IsStop, KeepsOthers, Stops}
+use Rattle.cs_apply.specs.Applies.{AppliesOne, IsConflictOf, IsStop, KeepsOthers, SizedChange, Stops, action_at, sized_of}
 use Rattle.cs_apply.specs.Laws.{AlwaysAborts}
 use Rattle.cs_apply.specs.Spots.{same_spot, spot_is, spot_refl}
 use Rattle.cs_tasks.specs.Tasks.{Task}
@@ -21,7 +21,7 @@ use Rattle.cs_hub.specs.appending.Laws.{OneFirstConflict}
 
 -- it may be called otherwise than one that asks nobody, and says the same
 module _ {F : Type 0} (asks : F → Conflict → Resolution → F → Type 0) (always : AlwaysAborts asks) where
-  one_aborts : (table : ℕ) (change : Change) (place end : Place) (f g : F) (given : Option Resolution) → AppliesOne asks table change place f given end g → AppliesOne aborts table change place tt given end tt
+  one_aborts : (table : ℕ) (change : SizedChange) (place end : Place) (f g : F) (given : Option Resolution) → AppliesOne asks table change place f given end g → AppliesOne aborts table change place tt given end tt
   one_aborts table change place end f g None p = (p.0, p.1, refl)
   one_aborts table change place end f g (Some answer) p = (p.0, p.1, always f p.0 answer g p.2, p.3)
 
@@ -31,7 +31,7 @@ module _ {F : Type 0} (asks : F → Conflict → Resolution → F → Type 0) (a
   stops_aborts before [] f g given conflict p = p
   stops_aborts before (task ∷ tasks) f g [] conflict p = (p.0, refl, p.2)
   stops_aborts before (task ∷ tasks) f g (some ∷ given) conflict p =
-      (p.0, tt, (one_aborts task.table task.change (before task.name task.key) (p.0 task.name task.key) f p.1 some p.2.0, p.2.1), stops_aborts p.0 tasks p.1 g given conflict p.3)
+      (p.0, tt, (one_aborts task.table (sized_of task) (before task.name task.key) (p.0 task.name task.key) f p.1 some p.2.0, p.2.1), stops_aborts p.0 tasks p.1 g given conflict p.3)
 
 -- ---- there is one
 
@@ -42,7 +42,7 @@ made : Kind → ℕ → Change → Place → Conflict
 made kind table change row = record { kind = kind; table = table; change = change; row = row }
 
 -- a change has one conflict at a place
-one_conflict : (table : ℕ) (change : Change) (place : Place) (c d : Conflict) → IsConflictOf table change place c → IsConflictOf table change place d → c ≡ d
+one_conflict : (table : ℕ) (change : SizedChange) (place : Place) (c d : Conflict) → IsConflictOf table change place c → IsConflictOf table change place d → c ≡ d
 unfolding made
 one_conflict table change place c d h k =
     let kinds : c.kind ≡ d.kind = some_same (sym h.of_kind ∙ k.of_kind) in
@@ -64,12 +64,12 @@ alike_after task s t middle other alike kept keeps here name key =
     kept name key apart ∙ (alike name key ∙ sym (keeps name key apart)))
 
 -- nothing is applied that conflicts
-none_goes : (table : ℕ) (change : Change) (place end : Place) (f g : Unit {0}) (answer : Resolution) → AppliesOne aborts table change place f (Some answer) end g → ⊥
+none_goes : (table : ℕ) (change : SizedChange) (place end : Place) (f g : Unit {0}) (answer : Resolution) → AppliesOne aborts table change place f (Some answer) end g → ⊥
 none_goes table change place end f g answer p =
-    let goes : answered Abort (action change) place ≡ Some end = subst (λ (r : Resolution). answered r (action change) place ≡ Some end) p.2 p.3 in cc
+    let goes : answered Abort (action_at change place) place ≡ Some end = subst (λ (r : Resolution). answered r (action_at change place) place ≡ Some end) p.2 p.3 in cc
 
 -- what is applied doesn't stop
-goes_or_stops : (table : ℕ) (change : Change) (place end : Place) (f g h k : Unit {0}) (conflict : Conflict)
+goes_or_stops : (table : ℕ) (change : SizedChange) (place end : Place) (f g h k : Unit {0}) (conflict : Conflict)
     → AppliesOne aborts table change place f None end g → IsStop aborts Abort table change place h conflict k → ⊥
 goes_or_stops table change place end f g h k conflict p q = let n = p.0 in let s = q.0.of_kind in cc
 
@@ -78,22 +78,22 @@ stops_once : (tasks : List Task) (s t : State) (f g h k : Unit {0}) (given other
 unfolding Stops
 stops_once [] s t f g h k given others c d alike p q = absurd p
 stops_once (task ∷ tasks) s t f g h k [] [] c d alike p q =
-    let here = subst (λ (place : Place). IsStop aborts Abort task.table task.change place f c g) (alike task.name task.key) p in
-    one_conflict task.table task.change (t task.name task.key) c d here.0 q.0
+    let here = subst (λ (place : Place). IsStop aborts Abort task.table (sized_of task) place f c g) (alike task.name task.key) p in
+    one_conflict task.table (sized_of task) (t task.name task.key) c d here.0 q.0
 stops_once (task ∷ tasks) s t f g h k [] (None ∷ others) c d alike p q =
-    let here = subst (λ (place : Place). IsStop aborts Abort task.table task.change place f c g) (alike task.name task.key) p in
-    absurd (goes_or_stops task.table task.change (t task.name task.key) (q.0 task.name task.key) h q.1 f g c q.2.0 here)
+    let here = subst (λ (place : Place). IsStop aborts Abort task.table (sized_of task) place f c g) (alike task.name task.key) p in
+    absurd (goes_or_stops task.table (sized_of task) (t task.name task.key) (q.0 task.name task.key) h q.1 f g c q.2.0 here)
 stops_once (task ∷ tasks) s t f g h k [] (Some b ∷ others) c d alike p q =
-    absurd (none_goes task.table task.change (t task.name task.key) (q.0 task.name task.key) h q.1 b q.2.0)
+    absurd (none_goes task.table (sized_of task) (t task.name task.key) (q.0 task.name task.key) h q.1 b q.2.0)
 stops_once (task ∷ tasks) s t f g h k (None ∷ given) [] c d alike p q =
-    let here = subst (λ (place : Place). AppliesOne aborts task.table task.change place f None (p.0 task.name task.key) p.1) (alike task.name task.key) p.2.0 in
-    absurd (goes_or_stops task.table task.change (t task.name task.key) (p.0 task.name task.key) f p.1 h k d here q)
+    let here = subst (λ (place : Place). AppliesOne aborts task.table (sized_of task) place f None (p.0 task.name task.key) p.1) (alike task.name task.key) p.2.0 in
+    absurd (goes_or_stops task.table (sized_of task) (t task.name task.key) (p.0 task.name task.key) f p.1 h k d here q)
 stops_once (task ∷ tasks) s t f g h k (Some a ∷ given) others c d alike p q =
-    absurd (none_goes task.table task.change (s task.name task.key) (p.0 task.name task.key) f p.1 a p.2.0)
+    absurd (none_goes task.table (sized_of task) (s task.name task.key) (p.0 task.name task.key) f p.1 a p.2.0)
 stops_once (task ∷ tasks) s t f g h k (None ∷ given) (Some b ∷ others) c d alike p q =
-    absurd (none_goes task.table task.change (t task.name task.key) (q.0 task.name task.key) h q.1 b q.2.0)
+    absurd (none_goes task.table (sized_of task) (t task.name task.key) (q.0 task.name task.key) h q.1 b q.2.0)
 stops_once (task ∷ tasks) s t f g h k (None ∷ given) (None ∷ others) c d alike p q =
-    let here = subst (λ (place : Place). AppliesOne aborts task.table task.change place f None (p.0 task.name task.key) p.1) (alike task.name task.key) p.2.0 in
+    let here = subst (λ (place : Place). AppliesOne aborts task.table (sized_of task) place f None (p.0 task.name task.key) p.1) (alike task.name task.key) p.2.0 in
     let one : p.0 task.name task.key ≡ q.0 task.name task.key = some_same (sym here.1 ∙ q.2.0.1) in
     stops_once tasks p.0 q.0 p.1 g q.1 k given others c d (alike_after task s t p.0 q.0 alike p.2.1 q.2.1 one) p.3 q.3
 

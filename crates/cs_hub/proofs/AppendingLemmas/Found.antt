@@ -14,7 +14,7 @@ use Rattle.cs_conflict.specs.declared.conflict.Conflict.{Conflict}
 use Rattle.cs_conflict.specs.declared.conflict.Resolution.{Resolution}
 use Rattle.cs_conflict.specs.declared.conflict.Resolution.TheVariants.{Abort}
 use Rattle.cs_conflict.specs.declared.kind.Kind.{Kind}
-use Rattle.cs_apply.specs.Applies.{Applies, AppliesTask, KeepsOthers, Stops, answers_of}
+use Rattle.cs_apply.specs.Applies.{Applies, AppliesTask, KeepsOthers, Stops, action_at, answers_of, sized_of}
 use Rattle.cs_apply.specs.Laws.{UnaskedIsDefined}
 use Rattle.cs_apply.specs.Spots.{same_spot, spot_is, spot_refl}
 use Rattle.cs_tasks.specs.Tasks.{Task, tasks}
@@ -45,7 +45,7 @@ unfolding Applies Stops
 goes_on task all before middle here (inl (given, end, none, run)) = inl (None ∷ given, end, none, (middle, tt, here, run))
 goes_on task all before middle here (inr (given, conflict, run)) = inr (None ∷ given, conflict, (middle, tt, here, run))
 
-at_task : KindTells → (task : Task) (all : List Task) (before : State) (found : Option Kind) → kind (action task.change) (before task.name task.key) ≡ found
+at_task : KindTells → (task : Task) (all : List Task) (before : State) (found : Option Kind) → kind (action_at (sized_of task) (before task.name task.key)) (before task.name task.key) ≡ found
     → ((middle : State) → Goes middle all ⊎ Ends middle all) → Goes before (task ∷ all) ⊎ Ends before (task ∷ all)
 unfolding Stops made
 at_task tells task all before None none rest =
@@ -60,7 +60,7 @@ goes_or_ends : KindTells → (all : List Task) (before : State) → Goes before 
 unfolding Applies
 goes_or_ends tells [] before = inl ([], before, refl, (λ name key. refl, refl, refl))
 goes_or_ends tells (task ∷ all) before =
-    at_task tells task all before (kind (action task.change) (before task.name task.key)) refl (λ middle. goes_or_ends tells all middle)
+    at_task tells task all before (kind (action_at (sized_of task) (before task.name task.key)) (before task.name task.key)) refl (λ middle. goes_or_ends tells all middle)
 
 -- where nothing is asked it doesn't matter who would be
 quiet_of_any : {F : Type 0} (asks : F → Conflict → Resolution → F → Type 0) (f : F) (all : List Task) (before end : State) (g h : Unit {0}) (given : List (Option Resolution)) → answers_of given ≡ []

@@ -10,7 +10,7 @@ loop-number-init g c = (
   λ honest. refl,
   λ honest left may. may,
   refl,
-  started c.args.tasks.now.places.1 c.args.groups.now c.requires.groups c.args.tasks.now.changes _ c.in_ok-places.places
+  started c.args.tasks.now.whole c.args.tasks.now.places.1 c.args.groups.now c.requires.groups c.args.tasks.now.changes _ c.in_ok-places.places
       c.in_ok-places.ensures.0 c.in_ok-places.ensures.1 c.in_ok-places.ensures.2 c.in_ok-places.ensures.3,
   λ honest before holds. refl,
 )
@@ -43,7 +43,7 @@ loop-number-preserved g c =
       (λ honest. reads.same honest ∙ c.loop-number.invariant.1 (reads.was_honest honest)),
       (λ honest left may. c.loop-number.invariant.2 (reads.was_honest honest) left (reads.crash honest left may)),
       c.in_ok-stored.ensures.reads.kept ∙ c.loop-number.invariant.3,
-      one_more c.args.tasks.now.places.1 c.args.groups.now c.requires.groups c.args.tasks.now.changes _ _
+      one_more c.args.tasks.now.whole c.args.tasks.now.places.1 c.args.groups.now c.requires.groups c.args.tasks.now.changes _ _
           (λ slot seen honest. seen (reads.was_honest honest))
           c.loop-number.number (slot_at c.in_ok-stored.stored) c.loop-number.places c.put_place.new.places less c.loop-number.invariant.4
           (here.0 ∙ c.in_ok-place.ensures.0, here.1, here.2)

@@ -7,4 +7,4 @@ abbrev pub invariant-loop-change : goal.invariant-loop-change
 invariant-loop-change l =
     (l.tasks.skipped ≡ l.fn.tasks.skipped)
     × ((before : List Task) → AreGathered l.fn.tasks before
-    → AreGathered l.tasks (before ++ map (task l.fn.table l.fn.group) (take l.change-index l.fn.group.changes)))
+    → AreGathered l.tasks (before ++ map (task l.fn.fit l.fn.group) (take l.change-index l.fn.group.changes)))

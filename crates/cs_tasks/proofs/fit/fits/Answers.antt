@@ -1,6 +1,6 @@
 use Rattle.std.proofs.Common.{sym, ap, ◌&&◌, ◌∙◌}
 use Rattle.cs_tasks.proofs.Groups.{fits_by}
-use Rattle.cs_tasks.proofs.tasks.fits.Goals as goal
+use Rattle.cs_tasks.proofs.fit.fits.Goals as goal
 
 pub returns-then-eq : goal.returns-then-eq
 returns-then-eq c =
