@@ -195,6 +195,8 @@ def wider(program, north, south, hub):
     dump = [f"replica 2 version {at + 2} pending 0 flight 0", "row stock t=oil 1 t= 7", *[row + " null" for row in (ROWS[1:] if program else ROWS)]]
     owe("the rows by three columns", south.ask("dump"), dump)
     owe("the rows by four", call(2, south.bytes(), b"dump\n", tables=WIDE)[0], dump)
+    for tables in b"T\5\1\0\0\0\0stock\0", b"T\3\1\0\1stock\0", b"T\4\1\0\0\0other\0":
+        refused("other tables than the file's", "Mismatch", 2, south.bytes(), b"dump\n", tables=tables)
     refused("the hub by four", "Mismatch", HUB, hub.bytes(), b"", tables=WIDE)
     if program:
         for word in "stock:100", "stock:1000":
